@@ -1,0 +1,4 @@
+pub mod Positions
+pub mod Lists
+pub mod Sets
+pub mod Suspects

@@ -1,0 +1,5 @@
+mod mask;
+mod refusal;
+
+pub use mask::SiteMask;
+pub use refusal::Refusal;

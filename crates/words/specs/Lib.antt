@@ -1,0 +1,5 @@
+pub mod Paths
+pub mod Kinds
+pub mod Layout
+pub mod Words
+pub mod Examples
