@@ -1,5 +1,5 @@
 ghost use mathlib.Core.Path.{_≡_};
-ghost use Prim.Native.Nat.{ℕ, _^_};
+ghost use Prim.Native.Nat.{_/_, _^_, _<_};
 ghost use lib.Bits.{bitAnd};
 ghost use lib.Count.{ones};
 ghost use lib.Dec.{ltb};
@@ -9,6 +9,14 @@ ghost use Rattle.sites.specs.Sets.{in-set};
 #[derive(Clone, Copy, PartialEq, Eq, Debug)]
 pub struct SiteMask {
     pub bits: u32,
+}
+
+// The bits from place n on.
+fn from_place(bits: u32, n: u8) -> u32
+    requires { ⌜ n < 32 ⌝ }
+    ensures { λ r. ⌜ r ≡ bits / 2 ^ n ⌝ }
+{
+    bits >> n
 }
 
 impl SiteMask {
@@ -32,7 +40,7 @@ impl SiteMask {
         ensures { λ r. ⌜ r ≡ ltb (now (self .entry) .bits) (2 ^ n) ⌝ }
     {
         let bits = self.bits;
-        n >= 32 || bits >> n == 0
+        n >= 32 || from_place(bits, n) == 0
     }
 
     /// The sites that are in both sets.

@@ -1,4 +1,4 @@
-mod fields;
+pub mod fields;
 mod kind;
 mod kinds;
 mod path;

@@ -49,7 +49,7 @@ impl PathWord {
         ensures back { λ r. ⌜ meaning r ≡ Some (meaning-of (now (self .entry))) ⌝ }
     {
         let top = self.kind.number() * 8 + self.path.len as u32;
-        fields::joined(top, &self.path.sites) * 128 + self.tail as u32
+        fields::packed(top, &self.path.sites, self.tail)
     }
 
     pub fn kind(&self) -> Kind

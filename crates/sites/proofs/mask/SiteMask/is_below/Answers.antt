@@ -21,4 +21,4 @@ quotient-none w p h =
     (cases-lt w p)
 
 pub returns-else-n-ge32 : need.returns-else-n-ge32
-returns-else-n-ge32 c = quotient-none (c .args .self .now .bits) (2 ^ c .args .n) (pow-pos (c .args .n))
+returns-else-n-ge32 c = rw (c .from-place .ensures) (quotient-none (c .args .self .now .bits) (2 ^ c .args .n) (pow-pos (c .args .n)))

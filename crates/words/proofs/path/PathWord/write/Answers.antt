@@ -11,14 +11,17 @@ use Rattle.words.specs.Words.{meaning, meaning-of, word-of, lawful?}
 use Rattle.std.specs.declared.option.Option.the-variants.{Some}
 use mathlib.Core.Bool.{true}
 use Prim.Native.Nat.{ℕ}
-use Rattle.words.proofs.Codec.{path-small, padded-at, packed-padded, read-back}
+use Rattle.words.proofs.Codec.{path-small, padded-at, packed-padded, read-back, tail-small}
 use Rattle.words.proofs.path.PathWord.write.Needs as need
 
-pub joined-requires : need.joined-requires
-joined-requires c κs =
-    let p = c .args .self .now .path in (
-      omega arith,
-      λ k h. let e = padded-at (p .sites) (p .len) (omega arith) (p .padded) k h in omega (arith, e, path-small (take (p .len) (p .sites)) (p .lawful) k),
+pub packed-requires : need.packed-requires
+packed-requires c κs =
+    let w = c .args .self .now in
+    let p = w .path in (
+      omega arith, (
+        λ k h. let e = padded-at (p .sites) (p .len) (omega arith) (p .padded) k h in omega (arith, e, path-small (take (p .len) (p .sites)) (p .lawful) k),
+        tail-small (w .kind) (p .len) (w .tail) (w .suited)
+      )
     )
 
 lawful : (p : PathWord) → lawful? (meaning-of p) ≡ true
@@ -31,5 +34,5 @@ value p w h = h ∙ sym (packed-padded (kind-number (p .kind)) (p .path .sites) 
 
 pub returns : need.returns
 returns c =
-    let v = value (c .args .self .now) (c .joined .result * 128 + c .args .self .now .tail) (simp (c .joined .ensures .value, c .number .ensures .value)) in
+    let v = value (c .args .self .now) (c .packed .result) (simp (c .packed .ensures, c .number .ensures .value)) in
     record { value = v; back = ap meaning v ∙ read-back (meaning-of (c .args .self .now)) (lawful (c .args .self .now)) }
