@@ -1,0 +1,42 @@
+// From a line to the command that it names.
+use crate::path_commands;
+use crate::session::Session;
+use crate::text;
+use std::alloc::Global;
+use std::error::AnyError;
+use std::str::from_utf8;
+
+/// Writes the answer to one line: nothing for a blank line or one that begins with `#`.
+pub fn answer(heap: Global, session: &mut Session, line: &[u8], out: &mut String) -> Result<(), AnyError> {
+    let Ok(line) = from_utf8(line) else {
+        return text::error(out, "the line is not UTF-8 text");
+    };
+    let tokens: Vec<&str> = line.split_ascii_whitespace().collect(heap)?;
+    match tokens.as_slice() {
+        [] => Ok(()),
+        [name, arguments @ ..] => {
+            if name.starts_with('#') {
+                return Ok(());
+            }
+            perform(heap, session, *name, arguments, out)
+        }
+    }
+}
+
+// One command with its arguments.
+fn perform(heap: Global, session: &mut Session, name: &str, arguments: &[&str], out: &mut String) -> Result<(), AnyError> {
+    match name {
+        "reset" => reset(session, arguments, out),
+        "read" => path_commands::read(arguments, out),
+        "write" => path_commands::write(heap, arguments, out),
+        _ => text::error(out, "no such command"),
+    }
+}
+
+fn reset(session: &mut Session, arguments: &[&str], out: &mut String) -> Result<(), AnyError> {
+    if arguments.len() != 0 {
+        return text::error(out, "reset takes no arguments");
+    }
+    *session = Session::new();
+    text::ok(out, "back at the start")
+}
