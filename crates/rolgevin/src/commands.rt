@@ -1,6 +1,8 @@
 // From a line to the command that it names.
+use crate::air_commands;
 use crate::path_commands;
 use crate::session::Session;
+use crate::sheet_commands;
 use crate::text;
 use std::alloc::Global;
 use std::error::AnyError;
@@ -29,6 +31,24 @@ fn perform(heap: Global, session: &mut Session, name: &str, arguments: &[&str], 
         "reset" => reset(session, arguments, out),
         "read" => path_commands::read(arguments, out),
         "write" => path_commands::write(heap, arguments, out),
+        "sheet" => sheet_commands::sheet(heap, session, arguments, out),
+        "plan" => sheet_commands::plan(session, arguments, out),
+        "items" => sheet_commands::items(heap, arguments, out),
+        "route" => sheet_commands::route(session, arguments, out),
+        "fan" => sheet_commands::fan(session, arguments, out),
+        _ => air_command(session, name, arguments, out),
+    }
+}
+
+// A command on the console's own air.
+fn air_command(session: &mut Session, name: &str, arguments: &[&str], out: &mut String) -> Result<(), AnyError> {
+    match name {
+        "eair" => air_commands::air(session, arguments, out),
+        "eput" => air_commands::put(session, arguments, out),
+        "ecount" => air_commands::count(session, arguments, out),
+        "eat" => air_commands::at(session, arguments, out),
+        "eclear" => air_commands::clear(session, arguments, out),
+        "elanes" => air_commands::lanes(session, arguments, out),
         _ => text::error(out, "no such command"),
     }
 }

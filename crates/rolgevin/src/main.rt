@@ -1,8 +1,10 @@
 // The console: commands from standard input, a line each, and one line of answer to each.
+mod air_commands;
 mod commands;
 mod numbers;
 mod path_commands;
 mod session;
+mod sheet_commands;
 mod text;
 
 use commands::answer;

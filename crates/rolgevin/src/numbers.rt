@@ -3,6 +3,9 @@ ghost use mathlib.Core.Path.{_≡_};
 ghost use Prim.Native.Nat.{_≤_};
 ghost use Rattle.rolgevin.specs.Numbers.{digit-of, digit-behind, number-in, hex-digits};
 
+use std::alloc::AllocError;
+use std::alloc::Global;
+
 // The digit that a byte writes; 16 for any other byte.
 fn digit(byte: u8) -> u32
     ensures value { λ r. ⌜ r ≡ digit-of byte ⌝ }
@@ -63,4 +66,16 @@ pub fn decimal(token: &[u8]) -> Option<u32>
     ensures { λ r. ⌜ r ≡ number-in 10 (now (token .entry)) ⌝ }
 {
     number(token, 10)
+}
+
+/// Words or masks, each in hexadecimal; nothing where one is not.
+pub fn hex_list(heap: Global, tokens: &[&str]) -> Result<Option<Vec<u32>>, AllocError> {
+    let mut words = Vec::new(heap);
+    for token in tokens {
+        let Some(word) = hex(token.as_bytes()) else {
+            return Ok(None);
+        };
+        words.push(word)?;
+    }
+    Ok(Some(words))
 }

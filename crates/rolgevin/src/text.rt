@@ -23,6 +23,20 @@ pub fn refused(out: &mut String, refusal: Refusal) -> Result<(), AnyError> {
     Ok(())
 }
 
+/// `ok none`, with plain words.
+pub fn none(out: &mut String, words: &str) -> Result<(), AnyError> {
+    write!(out, "ok none  # {words}")?;
+    Ok(())
+}
+
+/// Some words, a space before each.
+pub fn words(out: &mut String, words: &[u32]) -> Result<(), AnyError> {
+    for word in words {
+        write!(out, " {word:08X}")?;
+    }
+    Ok(())
+}
+
 /// Some sites with dashes between them.
 pub fn dashed(out: &mut String, sites: &[u8]) -> Result<(), AnyError> {
     for (i, site) in sites.iter().enumerate() {

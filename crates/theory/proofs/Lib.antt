@@ -1,0 +1,11 @@
+pub mod Paths
+pub mod Counts
+pub mod Rounds
+pub mod Relays
+pub mod Fans
+pub mod Phases
+pub mod Agreement
+pub mod Past
+pub mod Play
+pub mod Complete
+pub mod Examples

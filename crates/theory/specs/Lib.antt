@@ -1,0 +1,8 @@
+pub mod Network
+pub mod Flooding
+pub mod Weighing
+pub mod Runs
+pub mod Expected
+pub mod Laws
+pub mod Complete
+pub mod Examples
