@@ -10,11 +10,11 @@ use std::fmt::Write;
 pub fn air(session: &mut Session, arguments: &[&str], out: &mut String) -> Result<(), AnyError> {
     match arguments {
         ["board"] => {
-            session.air = AnyAir::board();
+            session.air = AnyAir::new(false);
             text::ok(out, "a fresh board: lanes of 120 words")
         }
         ["strip"] => {
-            session.air = AnyAir::strip();
+            session.air = AnyAir::new(true);
             text::ok(out, "a fresh strip: lanes of 160 words")
         }
         _ => text::error(out, "eair takes board or strip"),

@@ -1,4 +1,4 @@
-ghost use mathlib.Core.Path.{_≡_};
+// What the console has in hand.
 use airs::Air;
 use airs::Board;
 use airs::BoardAir;
@@ -7,52 +7,58 @@ use airs::StripAir;
 use plans::Plan;
 use sites::Refusal;
 
-/// One air or the other.
+/// An air of one kind or the other: only the one chosen is used.
 #[derive(Drop)]
-pub enum AnyAir {
-    Board(Board),
-    Strip(Strip),
+pub struct AnyAir {
+    board: Board,
+    strip: Strip,
+    is_strip: bool,
 }
 
 impl AnyAir {
-    pub fn board() -> AnyAir {
-        AnyAir::Board(Board::new())
-    }
-
-    pub fn strip() -> AnyAir {
-        AnyAir::Strip(Strip::new())
+    /// An empty strip, or an empty board.
+    pub fn new(is_strip: bool) -> AnyAir {
+        AnyAir {
+            board: Board::new(),
+            strip: Strip::new(),
+            is_strip,
+        }
     }
 
     pub fn put(&mut self, site: u8, word: u32) -> Result<usize, Refusal> {
-        match self {
-            AnyAir::Board(board) => board.put(site, word),
-            AnyAir::Strip(strip) => strip.put(site, word),
+        if self.is_strip {
+            self.strip.put(site, word)
+        } else {
+            self.board.put(site, word)
         }
     }
 
     pub fn count(&self, site: u8) -> usize {
-        match self {
-            AnyAir::Board(board) => board.count(site),
-            AnyAir::Strip(strip) => strip.count(site),
+        if self.is_strip {
+            self.strip.count(site)
+        } else {
+            self.board.count(site)
         }
     }
 
     pub fn at(&self, site: u8, position: usize) -> Option<u32> {
-        match self {
-            AnyAir::Board(board) => board.at(site, position),
-            AnyAir::Strip(strip) => strip.at(site, position),
+        if self.is_strip {
+            self.strip.at(site, position)
+        } else {
+            self.board.at(site, position)
         }
     }
 
     pub fn clear(&mut self) {
-        match self {
-            AnyAir::Board(board) => board.clear(),
-            AnyAir::Strip(strip) => strip.clear(),
+        if self.is_strip {
+            self.strip.clear();
+        } else {
+            self.board.clear();
         }
     }
 }
 
-/// What the console has in hand: a plan, and an air of its own.
+/// A plan, and an air of the console's own.
 #[derive(Drop)]
 pub struct Session {
     pub plan: Plan,
@@ -64,7 +70,7 @@ impl Session {
     pub fn new() -> Session {
         Session {
             plan: Plan::built_in(),
-            air: AnyAir::board(),
+            air: AnyAir::new(false),
         }
     }
 }

@@ -2,7 +2,6 @@
 use crate::numbers;
 use crate::session::Session;
 use crate::text;
-use plans::Plan;
 use sheets::Item;
 use sheets::Reader;
 use sheets::SheetRefusal;

@@ -1,0 +1,5 @@
+pub mod Puts
+pub mod Six
+pub mod Runs
+pub mod Strips
+pub mod Reading

@@ -1,0 +1,9 @@
+use mathlib.Core.Path.{sym}
+use native.Mathlib.Omega.{arith}
+use Rattle.std.proofs.shelf.Maps.{nth-past}
+use Rattle.airs.specs.Lanes.{lane}
+use Rattle.airs.specs.Boards.{board-lanes}
+use Rattle.airs.proofs.board_air.BoardAir.at.Needs as need
+
+pub returns-else-position-count : need.returns-else-position-count
+returns-else-position-count c = sym (nth-past (lane (board-lanes (c .args .self .now)) (c .args .site)) (c .args .position) (omega arith))

@@ -1,0 +1,5 @@
+pub mod Lanes
+pub mod Laws
+pub mod Boards
+pub mod Runs
+pub mod Strips
