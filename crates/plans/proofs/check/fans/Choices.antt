@@ -1,0 +1,12 @@
+use Prim.Native.Nat.{_-_}
+use mathlib.Core.Bool.{not}
+use mathlib.Core.Path.{_≡_}
+use lib.ListN.{length, getD}
+use Rattle.sites.specs.Positions.{first-from}
+use Rattle.plans.specs.Complete.{fanned, sets}
+use Rattle.plans.proofs.check.fans.Given as given
+
+abbrev pub Inv-loop-k : given.InvT-loop-k
+Inv-loop-k l =
+    first-from (λ k. not (fanned (l .words) (getD (sets (l .words)) k 0))) (l .k) (length (sets (l .words)) - l .k)
+    ≡ first-from (λ k. not (fanned (l .words) (getD (sets (l .words)) k 0))) 0 (length (sets (l .words)))
