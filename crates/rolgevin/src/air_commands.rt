@@ -26,7 +26,10 @@ pub fn put(session: &mut Session, arguments: &[&str], out: &mut String) -> Resul
     let [site, word] = arguments else {
         return text::error(out, "eput takes a site and a word");
     };
-    let (Some(site), Some(word)) = (numbers::decimal(site.as_bytes()), numbers::hex(word.as_bytes())) else {
+    let (Some(site), Some(word)) = (
+        numbers::decimal(site.as_bytes()),
+        numbers::hex(word.as_bytes()),
+    ) else {
         return text::error(out, "eput takes a site and a word");
     };
     match session.air.put(text::byte(site), word) {
@@ -56,12 +59,18 @@ pub fn at(session: &Session, arguments: &[&str], out: &mut String) -> Result<(),
     let [site, position] = arguments else {
         return text::error(out, "eat takes a site and a position");
     };
-    let (Some(site), Some(position)) = (numbers::decimal(site.as_bytes()), numbers::decimal(position.as_bytes())) else {
+    let (Some(site), Some(position)) = (
+        numbers::decimal(site.as_bytes()),
+        numbers::decimal(position.as_bytes()),
+    ) else {
         return text::error(out, "eat takes a site and a position");
     };
     match session.air.at(text::byte(site), position as usize) {
         Some(word) => {
-            write!(out, "ok {word:08X}  # the word at position {position} of site {site}")?;
+            write!(
+                out,
+                "ok {word:08X}  # the word at position {position} of site {site}"
+            )?;
             Ok(())
         }
         None => text::none(out, "no word stands there"),

@@ -9,7 +9,12 @@ use std::error::AnyError;
 use std::str::from_utf8;
 
 /// Writes the answer to one line: nothing for a blank line or one that begins with `#`.
-pub fn answer(heap: Global, session: &mut Session, line: &[u8], out: &mut String) -> Result<(), AnyError> {
+pub fn answer(
+    heap: Global,
+    session: &mut Session,
+    line: &[u8],
+    out: &mut String,
+) -> Result<(), AnyError> {
     let Ok(line) = from_utf8(line) else {
         return text::error(out, "the line is not UTF-8 text");
     };
@@ -26,7 +31,13 @@ pub fn answer(heap: Global, session: &mut Session, line: &[u8], out: &mut String
 }
 
 // One command with its arguments.
-fn perform(heap: Global, session: &mut Session, name: &str, arguments: &[&str], out: &mut String) -> Result<(), AnyError> {
+fn perform(
+    heap: Global,
+    session: &mut Session,
+    name: &str,
+    arguments: &[&str],
+    out: &mut String,
+) -> Result<(), AnyError> {
     match name {
         "reset" => reset(session, arguments, out),
         "read" => path_commands::read(arguments, out),
@@ -41,7 +52,12 @@ fn perform(heap: Global, session: &mut Session, name: &str, arguments: &[&str], 
 }
 
 // A command on the console's own air.
-fn air_command(session: &mut Session, name: &str, arguments: &[&str], out: &mut String) -> Result<(), AnyError> {
+fn air_command(
+    session: &mut Session,
+    name: &str,
+    arguments: &[&str],
+    out: &mut String,
+) -> Result<(), AnyError> {
     match name {
         "eair" => air_commands::air(session, arguments, out),
         "eput" => air_commands::put(session, arguments, out),

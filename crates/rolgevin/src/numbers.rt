@@ -2,7 +2,6 @@
 ghost use mathlib.Core.Path.{_≡_};
 ghost use Prim.Native.Nat.{_≤_};
 ghost use Rattle.rolgevin.specs.Numbers.{digit-of, digit-behind, number-in, hex-digits};
-
 use std::alloc::AllocError;
 use std::alloc::Global;
 

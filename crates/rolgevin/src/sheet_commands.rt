@@ -27,7 +27,12 @@ fn refused(out: &mut String, fault: SheetRefusal) -> Result<(), AnyError> {
 }
 
 /// `sheet W..`
-pub fn sheet(heap: Global, session: &mut Session, arguments: &[&str], out: &mut String) -> Result<(), AnyError> {
+pub fn sheet(
+    heap: Global,
+    session: &mut Session,
+    arguments: &[&str],
+    out: &mut String,
+) -> Result<(), AnyError> {
     let Some(words) = numbers::hex_list(heap, arguments)? else {
         return text::error(out, "sheet takes words of up to eight hexadecimal digits");
     };
@@ -84,7 +89,11 @@ fn all_items(start: Reader<'_>, len: usize, out: &mut String) -> Result<(), AnyE
 
 fn show(item: Item<'_>, out: &mut String) -> Result<(), AnyError> {
     match item {
-        Item::Head { place, sites, rogues } => write!(out, " head@{place}:{sites},{rogues}")?,
+        Item::Head {
+            place,
+            sites,
+            rogues,
+        } => write!(out, " head@{place}:{sites},{rogues}")?,
         Item::Edge { place, low, high } => write!(out, " edge@{place}:{low}-{high}")?,
         Item::Route { place, word } => write!(out, " route@{place}:{word:08X}")?,
         Item::Fan { place, run } => {

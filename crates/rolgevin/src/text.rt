@@ -53,7 +53,8 @@ pub fn meaning(refusal: Refusal) -> &'static str {
     match refusal {
         Refusal::SheetSize => "a sheet has 1 to 1,024 words",
         Refusal::Head => "the first word is no lawful head",
-        Refusal::Kind => "a later word is no edge, route or fan path, or its kind is below the kind before",
+        Refusal::Kind =>
+            "a later word is no edge, route or fan path, or its kind is below the kind before",
         Refusal::Edge => "an edge has bad bits or sites, or does not ascend",
         Refusal::Path => "not a lawful path, or a site not below n, or a missing edge",
         Refusal::Fan => "a fan is short, its ends differ, or its paths share another site",

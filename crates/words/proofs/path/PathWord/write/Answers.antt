@@ -18,10 +18,11 @@ pub packed-requires : need.packed-requires
 packed-requires c κs =
     let w = c .args .self .now in
     let p = w .path in (
-      omega arith, (
+      omega arith,
+      (
         λ k h. let e = padded-at (p .sites) (p .len) (omega arith) (p .padded) k h in omega (arith, e, path-small (take (p .len) (p .sites)) (p .lawful) k),
-        tail-small (w .kind) (p .len) (w .tail) (w .suited)
-      )
+        tail-small (w .kind) (p .len) (w .tail) (w .suited),
+      ),
     )
 
 lawful : (p : PathWord) → lawful? (meaning-of p) ≡ true
