@@ -1,0 +1,3 @@
+pub mod Floods
+pub mod Notebooks
+pub mod Laws

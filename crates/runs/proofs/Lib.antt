@@ -1,0 +1,9 @@
+pub mod Rounds
+pub mod Speech
+pub mod Accepted
+pub mod Follows
+pub mod Replies
+pub mod Runs
+pub mod Guarantee
+pub mod Laws
+pub mod Examples
