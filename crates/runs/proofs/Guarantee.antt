@@ -150,7 +150,7 @@ module _ (size : ℕ) (N : Network) (rogues bits : ℕ) (calls : List Call) (law
       let t = let-through (eqb turns (last-turn N)) Undecided (held N talk (in-set bits) (phases N) v) b (sym (here .decision v h) ∙ e) in
       (eqb-true turns (last-turn N) (t .0), t .1)
 
-  guaranteed : 120 ≤ size → Guaranteed size N rogues bits (entries calls (answers size (opened N rogues bits) calls)) (after size (opened N rogues bits) calls)
+  pub guaranteed : 120 ≤ size → Guaranteed size N rogues bits (entries calls (answers size (opened N rogues bits) calls)) (after size (opened N rogues bits) calls)
   guaranteed wide = record {
     same-decision = λ v w h g.
         here .decision v h

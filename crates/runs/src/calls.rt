@@ -1,10 +1,7 @@
 use sites::Refusal;
-use sites::RefusalDebug;
-use sites::RefusalEq;
-use sites::RefusalPartialEq;
 
 /// A call on an opened floor, with its arguments.
-#[derive(Clone, Copy, PartialEq, Eq, Debug)]
+#[derive(Clone, Copy)]
 pub enum Call {
     /// Puts a word for a rogue.
     Transmit { site: u8, word: u32 },
@@ -21,7 +18,7 @@ pub enum Call {
 }
 
 /// What a call answers.
-#[derive(Clone, Copy, PartialEq, Eq, Debug)]
+#[derive(Clone, Copy)]
 pub enum Answer {
     /// A lane's new length, a number of words or a number of turns.
     Count(usize),

@@ -4,13 +4,7 @@ ghost use Rattle.runs.specs.Examples.{Examples};
 ghost use Rattle.runs.specs.Guarantee.{Guarantee-law};
 ghost use Rattle.runs.specs.Laws.{One-way-law, Open-law, Refused-law, Room-law};
 pub use calls::Answer;
-pub use calls::AnswerDebug;
-pub use calls::AnswerEq;
-pub use calls::AnswerPartialEq;
 pub use calls::Call;
-pub use calls::CallDebug;
-pub use calls::CallEq;
-pub use calls::CallPartialEq;
 
 /// What holds after every list of calls on a floor just opened: agreement, origin, the count of turns, and the algorithm's run and no other.
 pub fn guarantee_holds() -> u8
