@@ -1,4 +1,4 @@
--- The search for a fan, from one fan to the next.
+-- The searches for a route and, from one fan to the next, for a fan.
 use mathlib.Core.Path.{_≡_, refl, sym, _∙_, ap, subst}
 use mathlib.Core.List.{List}
 use mathlib.Core.Bool.{Bool, true, false}
@@ -6,13 +6,14 @@ use mathlib.Core.Logic.{⊎-elim}
 use Prim.Native.Nat.{ℕ, zero, suc, _+_, _-_, _*_, _/_, _%_, _<_, _≤_}
 use native.Mathlib.Omega.{arith}
 use lib.Dec.{eqb, leb}
-use lib.ListN.{length, take, drop}
+use lib.ListN.{length, getD, take, drop}
 use Rattle.std.specs.declared.option.Option.{Option}
 use Rattle.std.specs.declared.option.Option.the-variants.{Some, None}
 use Rattle.std.proofs.shelf.Bits.{div-add-mod', mod-mul-add}
+use Rattle.std.proofs.shelf.Lists.{getD-take, getD-drop}
 use Rattle.std.proofs.shelf.Tests.{and-parts, and-from, and-left, and-right, eqb-true, ne-eqb, leb-true, le-leb, lt-leb, cases-eq, cond-false}
 use Rattle.sites.specs.Positions.{first-from}
-use Rattle.sites.proofs.Positions.{first-hit, first-miss, first-is}
+use Rattle.sites.proofs.Positions.{first-hit, first-miss, first-is, first-end}
 use Rattle.words.specs.Layout.{kind-field}
 use Rattle.sheets.specs.Parts.{word-at, rogue-limit, later}
 use Rattle.sheets.specs.Rows.{first-fan, fan-starts, run-at}
@@ -31,6 +32,25 @@ skip p n i (suc d) l h =
 none-from : (p : ℕ → Bool) (i n : ℕ) → ((k : ℕ) → i ≤ k → p k ≡ false) → first-from p i n ≡ None
 none-from p i zero h = refl
 none-from p i (suc n) h = cond-false (p i) (Some i) (first-from p (i + 1) n) (h i (omega arith)) ∙ none-from p (i + 1) n (λ k lo. h k (omega arith))
+
+-- the search among the words after the head
+module _ (ws : List ℕ) (t : ℕ → Bool) (some : 0 < length ws) (r : ℕ)
+    (before : (k : ℕ) → k < r → t (getD (take (length ws - 1) (drop 1 ws)) k 0) ≡ false) where
+  behind : (k : ℕ) → k < length ws - 1 → getD (take (length ws - 1) (drop 1 ws)) k 0 ≡ getD ws (1 + k) 0
+  behind k l = getD-take (length ws - 1) (drop 1 ws) k 0 l ∙ getD-drop 1 ws k 0
+
+  past : r ≤ length ws - 1 → first-from (λ i. t (getD ws i 0)) 1 (length ws - 1) ≡ first-from (λ i. t (getD ws i 0)) (1 + r) (length ws - (1 + r))
+  past l = skip (λ i. t (getD ws i 0)) (length ws) 1 r (omega arith)
+      (λ k lo hi. let e : 1 + (k - 1) ≡ k = omega arith in
+      subst (λ (x : ℕ). t (getD ws x 0) ≡ false) e (ap t (sym (behind (k - 1) (omega arith))) ∙ before (k - 1) (omega arith)))
+
+  pub place-found : r + 1 < length ws → t (getD (take (length ws - 1) (drop 1 ws)) r 0) ≡ true → Some (r + 1) ≡ first-from (λ i. t (getD ws i 0)) 1 (length ws - 1)
+  place-found l h =
+      let e : 1 + r ≡ r + 1 = omega arith in
+      sym (past (omega arith) ∙ first-hit (λ i. t (getD ws i 0)) (1 + r) (length ws) (omega arith) (ap t (sym (behind r (omega arith))) ∙ h) ∙ ap Some e)
+
+  pub place-missing : r ≤ length ws - 1 → length ws ≤ r + 1 → None ≡ first-from (λ i. t (getD ws i 0)) 1 (length ws - 1)
+  place-missing k l = sym (past k ∙ first-end (λ i. t (getD ws i 0)) (1 + r) (length ws) (omega arith))
 
 fan-after-head : (ws : List ℕ) (o : Option ℕ) → first-from (λ i. eqb (kind-field (word-at ws i)) 11) 1 (later ws) ≡ o → 0 < length ws →
     (0 < elim o [ Some i ↦ i | None ↦ length ws ]) × (elim o [ Some i ↦ i | None ↦ length ws ] ≤ length ws)

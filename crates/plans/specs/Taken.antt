@@ -12,7 +12,7 @@ use Rattle.words.specs.Layout.{path-field}
 use Rattle.sheets.specs.Parts.{word-at, site-count, rogue-limit, joined}
 use Rattle.sheets.specs.Rows.{run-at}
 use Rattle.theory.specs.Network.{Network}
-use Rattle.plans.specs.Complete.{route-place, fan-place}
+use Rattle.plans.specs.Complete.{serves-route, route-place, fan-place}
 
 -- the path of the word at a place, if there is a place
 abbrev pub path-at : List ℕ → Option ℕ → List ℕ
@@ -23,6 +23,10 @@ path-at ws None = []
 abbrev pub words-at : List ℕ → Option ℕ → List ℕ
 words-at ws (Some i) = run-at ws i
 words-at ws None = []
+
+-- a word is a route from u to v that avoids F: the same as serves-route, kept shut for searches
+unfoldable pub route-here : ℕ → ℕ → ℕ → ℕ → Bool
+route-here F u v w = serves-route F u v w
 
 -- a set of at most f of n sites
 abbrev pub suspect? : ℕ → ℕ → ℕ → Bool

@@ -1,10 +1,11 @@
 ghost use mathlib.Core.Path.{_≡_};
-ghost use Prim.Native.Nat.{_<_};
-ghost use lib.ListN.{length};
-ghost use mathlib.Core.Bool.{_&&_};
+ghost use Prim.Native.Nat.{ℕ, _<_, _≤_};
+ghost use lib.ListN.{length, getD};
+ghost use mathlib.Core.Bool.{true, false, _&&_};
 ghost use Rattle.sites.specs.Sets.{in-set};
 ghost use Rattle.sheets.specs.Parts.{source, avoids as does-avoid};
 ghost use Rattle.sheets.specs.Rows.{first-fan};
+ghost use Rattle.plans.specs.Taken.{route-here};
 ghost use Rattle.plans.specs.Complete.{serves-route, serves-fan, route-place, fan-place};
 use sheets::parts::avoids;
 use sheets::parts::end_of;
@@ -20,16 +21,41 @@ fn is_route(word: u32, set: SiteMask, from: u8, to: u8) -> bool
     kind_of(word) == 10 && source_of(word) == from && end_of(word) == to && avoids(set, word)
 }
 
+// The same, for the search.
+fn is_here(word: u32, set: SiteMask, from: u8, to: u8) -> bool
+    ensures { λ r. ⌜ r ≡ route-here (set .bits) from to word ⌝ }
+{
+    is_route(word, set, from, to)
+}
+
+// The first place at which a word is a route between two sites that avoids a set; the number of words where
+// there is none.
+fn seek_route(words: &[u32], set: SiteMask, from: u8, to: u8) -> usize
+    ensures within { λ r. ⌜ r ≤ length (now (words .entry)) ⌝ }
+    ensures before { λ r. ⌜ ((k : ℕ) → k < r → route-here (set .bits) from to (getD (now (words .entry)) k 0) ≡ false) ⌝ }
+    ensures found { λ r. ⌜ (r < length (now (words .entry)) → route-here (set .bits) from to (getD (now (words .entry)) r 0) ≡ true) ⌝ }
+{
+    for i in 0..words.len() {
+        if is_here(words[i], set, from, to) {
+            return i;
+        }
+    }
+    words.len()
+}
+
 // The place of the first route between two sites that avoids a set.
 pub(crate) fn first_route(words: &[u32], set: SiteMask, from: u8, to: u8) -> Option<usize>
     ensures { λ r. ⌜ r ≡ route-place (now (words .entry)) (set .bits) from to ⌝ }
 {
-    for i in 1..words.len() {
-        if is_route(words[i], set, from, to) {
-            return Some(i);
-        }
+    if words.len() == 0 {
+        return None;
     }
-    None
+    let place = seek_route(&words[1..words.len()], set, from, to) + 1;
+    if place < words.len() {
+        Some(place)
+    } else {
+        None
+    }
 }
 
 // Whether a path begins in a set and avoids another set.
