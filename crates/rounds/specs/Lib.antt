@@ -1,0 +1,4 @@
+pub mod Ears
+pub mod Speaking
+pub mod Recalling
+pub mod Laws

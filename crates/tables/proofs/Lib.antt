@@ -1,0 +1,10 @@
+pub mod Masks
+pub mod MaskSums
+pub mod Joins
+pub mod Walked
+pub mod Words
+pub mod Levels
+pub mod Listed
+pub mod TableFacts
+pub mod Found
+pub mod Edges
