@@ -2,11 +2,11 @@ ghost use mathlib.Core.Path.{_≡_};
 ghost use mathlib.Core.List.{map};
 ghost use Prim.Native.Nat.{ℕ, _≤_};
 ghost use lib.Dec.{eqb};
-ghost use lib.ListN.{length, getD};
+ghost use lib.ListN.{length, getD, take};
 ghost use Rattle.std.specs.Options.{mapped};
 ghost use Rattle.std.specs.shelf.Maps.{nth};
 ghost use Rattle.sites.specs.Positions.{first-from};
-ghost use Rattle.words.specs.Words.{sites-of};
+ghost use Rattle.words.specs.Words.{Makes-word, sites-of};
 ghost use Rattle.tables.specs.Drafts.{drafted, Lists};
 ghost use Rattle.tables.specs.Entries.{path-word, entry-of, no-entry};
 ghost use Rattle.tables.specs.Tables.{network-of, table-paths, place-in};
@@ -14,6 +14,7 @@ use crate::draft::Draft;
 use crate::expected_path::ExpectedPath;
 use crate::table::PathTable;
 use crate::wiring::Wiring;
+use sites::Refusal;
 use words::Kind;
 use words::Path;
 use words::PathWord;
@@ -36,6 +37,28 @@ fn at_most_five(k: usize) -> usize
     ensures five { λ r. ⌜ (5 ≤ k → r ≡ 5) ⌝ }
 {
     k.min(5)
+}
+
+// So many entries from the first on.
+fn first_entries(entries: &[ExpectedPath], count: usize) -> &[ExpectedPath]
+    requires { ⌜ count ≤ length (now entries) ⌝ }
+    ensures { λ r. ⌜ now r ≡ take count (now (entries .entry)) ⌝ }
+{
+    &entries[0..count]
+}
+
+// The flood word, with bit 0, of an entry's path.
+fn word_of(entry: &ExpectedPath) -> u32
+    ensures { λ r. ⌜ r ≡ now (entry .entry) .word ⌝ }
+{
+    entry.word
+}
+
+// A path with bit 0, as a flood word carries it; refused for a path of six sites, which none does.
+fn as_flood(path: &Path) -> Result<PathWord, Refusal>
+    ensures { λ r. ⌜ Makes-word (record { kind = Kind.Flood; sites = sites-of (now (path .entry)); tail = 0 }) r ⌝ }
+{
+    PathWord::new(Kind::Flood, *path, 0)
 }
 
 // The place of the first entry with a word.
@@ -94,7 +117,7 @@ impl PathTable {
     pub fn up_to(&self, k: usize) -> &[ExpectedPath]
         ensures { λ r. ⌜ now r ≡ map entry-of (table-paths (now (self .entry)) k) ⌝ }
     {
-        &self.entries[0..self.count(k)]
+        first_entries(&self.entries, self.count(k))
     }
 
     /// The flood word, with bit 0, of the path at a place of the notebook; none past the last path.
@@ -102,7 +125,7 @@ impl PathTable {
         ensures { λ r. ⌜ r ≡ mapped path-word (nth (table-paths (now (self .entry)) 5) place) ⌝ }
     {
         if place < self.count(5) {
-            Some(self.entries[place].word)
+            Some(word_of(&self.entries[place]))
         } else {
             None
         }
@@ -112,7 +135,7 @@ impl PathTable {
     pub fn position(&self, path: &Path, k: usize) -> Option<usize>
         ensures { λ r. ⌜ r ≡ place-in (sites-of (now (path .entry))) (table-paths (now (self .entry)) k) ⌝ }
     {
-        let Ok(flood) = PathWord::new(Kind::Flood, *path, 0) else {
+        let Ok(flood) = as_flood(path) else {
             return None;
         };
         find(self.up_to(k), flood.write())

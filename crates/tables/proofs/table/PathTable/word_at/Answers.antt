@@ -1,7 +1,7 @@
 use mathlib.Core.Path.{_≡_, sym, _∙_, ap}
 use mathlib.Core.List.{[]}
 use native.Mathlib.Omega.{arith}
-use Prim.Native.Nat.{_<_, _≤_}
+use Prim.Native.Nat.{ℕ, _<_, _≤_}
 use lib.ListN.{length}
 use Rattle.std.specs.declared.option.Option.the-variants.{Some, None}
 use Rattle.std.specs.Options.{mapped}
@@ -16,7 +16,7 @@ pub returns-then-place-count : need.returns-then-place-count
 returns-then-place-count c =
     let t = c .args .self .now in
     let lt : c .args .place < length (table-paths t 5) = omega (arith, c .count .ensures .value) in
-    ap (λ (e : ExpectedPath). Some (e .word)) (entry-at t (c .args .place) lt) ∙ sym (ap (mapped path-word) (nth-getD (table-paths t 5) (c .args .place) [] lt))
+    ap (λ (w : ℕ). Some w) (c .word-of .ensures) ∙ ap (λ (e : ExpectedPath). Some (e .word)) (entry-at t (c .args .place) lt) ∙ sym (ap (mapped path-word) (nth-getD (table-paths t 5) (c .args .place) [] lt))
 
 pub returns-else-place-count : need.returns-else-place-count
 returns-else-place-count c =
