@@ -1,5 +1,6 @@
 // From a line to the command that it names.
 use crate::air_commands;
+use crate::floor_commands;
 use crate::path_commands;
 use crate::session::Session;
 use crate::sheet_commands;
@@ -47,6 +48,26 @@ fn perform(
         "items" => sheet_commands::items(heap, arguments, out),
         "route" => sheet_commands::route(session, arguments, out),
         "fan" => sheet_commands::fan(session, arguments, out),
+        _ => floor_command(session, name, arguments, out),
+    }
+}
+
+// A command on the floor.
+fn floor_command(
+    session: &mut Session,
+    name: &str,
+    arguments: &[&str],
+    out: &mut String,
+) -> Result<(), AnyError> {
+    match name {
+        "air" => floor_commands::air(session, arguments, out),
+        "open" => floor_commands::open(session, arguments, out),
+        "transmit" | "recalled" => floor_commands::with_word(session, name, arguments, out),
+        "speak" | "held" | "decision" => floor_commands::for_site(session, name, arguments, out),
+        "turn" => floor_commands::turn(session, arguments, out),
+        "lanes" => floor_commands::lanes(session, arguments, out),
+        "notebook" => floor_commands::notebook(session, arguments, out),
+        "state" => floor_commands::state(session, arguments, out),
         _ => air_command(session, name, arguments, out),
     }
 }

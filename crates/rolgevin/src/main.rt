@@ -1,6 +1,8 @@
 // The console: commands from standard input, a line each, and one line of answer to each.
 mod air_commands;
+mod any_floor;
 mod commands;
+mod floor_commands;
 mod numbers;
 mod path_commands;
 mod session;

@@ -1,4 +1,5 @@
 // What the console has in hand.
+use crate::any_floor::AnyFloor;
 use airs::Air;
 use airs::Board;
 use airs::BoardAir;
@@ -58,18 +59,21 @@ impl AnyAir {
     }
 }
 
-/// A plan, and an air of the console's own.
+/// A plan, a floor, and an air of the console's own.
 #[derive(Drop)]
 pub struct Session {
     pub plan: Plan,
+    pub floor: AnyFloor,
     pub air: AnyAir,
 }
 
 impl Session {
-    /// The start, to which `reset` goes back: the built-in plan and an empty board.
+    /// The start, to which `reset` goes back: the built-in plan, a new floor over a board, and an
+    /// empty board.
     pub fn new() -> Session {
         Session {
             plan: Plan::built_in(),
+            floor: AnyFloor::new(false),
             air: AnyAir::new(false),
         }
     }

@@ -79,3 +79,17 @@ pub fn meaning(refusal: Refusal) -> &'static str {
 pub fn byte(number: u32) -> u8 {
     number.min(255) as u8
 }
+
+/// Some words without the zeros at their end.
+pub fn trimmed(words: &[u32]) -> &[u32] {
+    let mut len = 0;
+    for (i, word) in words.iter().enumerate() {
+        if *word != 0 {
+            len = i + 1;
+        }
+    }
+    if len > words.len() {
+        return words;
+    }
+    &words[0..len]
+}

@@ -1,0 +1,9 @@
+pub mod FanWords
+pub mod Fitted
+pub mod Six
+pub mod Seen
+pub mod Turns
+pub mod Speaks
+pub mod Turned
+pub mod Recalls
+pub mod Performs

@@ -1,0 +1,20 @@
+mod asking;
+mod floor;
+mod ground;
+mod grounds;
+mod listing;
+mod looking;
+mod opening;
+mod performing;
+mod putting;
+mod recalling;
+mod record;
+mod records;
+mod routing;
+mod site_plan;
+mod speaking;
+mod turning;
+
+pub use floor::Floor;
+pub use routing::SitePlanRouting;
+pub use site_plan::SitePlan;
