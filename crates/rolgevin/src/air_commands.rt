@@ -7,7 +7,11 @@ use std::error::AnyError;
 use std::fmt::Write;
 
 /// `eair board|strip`
-pub fn air(session: &mut Session, arguments: &[&str], out: &mut String) -> Result<(), AnyError> {
+pub(crate) fn air(
+    session: &mut Session,
+    arguments: &[&str],
+    out: &mut String,
+) -> Result<(), AnyError> {
     match arguments {
         ["board"] => {
             session.air = AnyAir::new(false);
@@ -22,7 +26,11 @@ pub fn air(session: &mut Session, arguments: &[&str], out: &mut String) -> Resul
 }
 
 /// `eput S W`
-pub fn put(session: &mut Session, arguments: &[&str], out: &mut String) -> Result<(), AnyError> {
+pub(crate) fn put(
+    session: &mut Session,
+    arguments: &[&str],
+    out: &mut String,
+) -> Result<(), AnyError> {
     let [site, word] = arguments else {
         return text::error(out, "eput takes a site and a word");
     };
@@ -42,7 +50,11 @@ pub fn put(session: &mut Session, arguments: &[&str], out: &mut String) -> Resul
 }
 
 /// `ecount S`
-pub fn count(session: &Session, arguments: &[&str], out: &mut String) -> Result<(), AnyError> {
+pub(crate) fn count(
+    session: &Session,
+    arguments: &[&str],
+    out: &mut String,
+) -> Result<(), AnyError> {
     let [site] = arguments else {
         return text::error(out, "ecount takes a site");
     };
@@ -55,7 +67,7 @@ pub fn count(session: &Session, arguments: &[&str], out: &mut String) -> Result<
 }
 
 /// `eat S POS`
-pub fn at(session: &Session, arguments: &[&str], out: &mut String) -> Result<(), AnyError> {
+pub(crate) fn at(session: &Session, arguments: &[&str], out: &mut String) -> Result<(), AnyError> {
     let [site, position] = arguments else {
         return text::error(out, "eat takes a site and a position");
     };
@@ -78,7 +90,11 @@ pub fn at(session: &Session, arguments: &[&str], out: &mut String) -> Result<(),
 }
 
 /// `eclear`
-pub fn clear(session: &mut Session, arguments: &[&str], out: &mut String) -> Result<(), AnyError> {
+pub(crate) fn clear(
+    session: &mut Session,
+    arguments: &[&str],
+    out: &mut String,
+) -> Result<(), AnyError> {
     if arguments.len() != 0 {
         return text::error(out, "eclear takes no arguments");
     }
@@ -87,7 +103,11 @@ pub fn clear(session: &mut Session, arguments: &[&str], out: &mut String) -> Res
 }
 
 /// `elanes`
-pub fn lanes(session: &Session, arguments: &[&str], out: &mut String) -> Result<(), AnyError> {
+pub(crate) fn lanes(
+    session: &Session,
+    arguments: &[&str],
+    out: &mut String,
+) -> Result<(), AnyError> {
     if arguments.len() != 0 {
         return text::error(out, "elanes takes no arguments");
     }

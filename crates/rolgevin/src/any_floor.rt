@@ -21,7 +21,7 @@ pub struct AnyFloor {
 
 impl AnyFloor {
     /// A new floor over an empty strip, or an empty board.
-    pub fn new(is_strip: bool) -> AnyFloor {
+    pub(crate) fn new(is_strip: bool) -> AnyFloor {
         AnyFloor {
             board: Floor::new(Board::new()),
             strip: Floor::new(Strip::new()),
@@ -29,7 +29,12 @@ impl AnyFloor {
         }
     }
 
-    pub fn open(&mut self, plan: &Plan, rogues: SiteMask, bits: SiteMask) -> Result<(), Refusal> {
+    pub(crate) fn open(
+        &mut self,
+        plan: &Plan,
+        rogues: SiteMask,
+        bits: SiteMask,
+    ) -> Result<(), Refusal> {
         if self.is_strip {
             self.strip.open(plan, rogues, bits)
         } else {
@@ -38,7 +43,7 @@ impl AnyFloor {
     }
 
     /// Performs one call, as a list of one.
-    pub fn answer(&mut self, call: Call) -> Answer {
+    pub(crate) fn answer(&mut self, call: Call) -> Answer {
         let calls = [call];
         let mut answers = [Answer::Count(0)];
         if self.is_strip {
@@ -49,7 +54,7 @@ impl AnyFloor {
         answers[0]
     }
 
-    pub fn count(&self, site: u8) -> usize {
+    pub(crate) fn count(&self, site: u8) -> usize {
         if self.is_strip {
             self.strip.air().count(site)
         } else {
@@ -57,7 +62,7 @@ impl AnyFloor {
         }
     }
 
-    pub fn at(&self, site: u8, position: usize) -> Option<u32> {
+    pub(crate) fn at(&self, site: u8, position: usize) -> Option<u32> {
         if self.is_strip {
             self.strip.air().at(site, position)
         } else {
@@ -65,7 +70,7 @@ impl AnyFloor {
         }
     }
 
-    pub fn notebook(&self, site: u8) -> &[u32] {
+    pub(crate) fn notebook(&self, site: u8) -> &[u32] {
         if self.is_strip {
             self.strip.notebook(site)
         } else {
@@ -73,7 +78,7 @@ impl AnyFloor {
         }
     }
 
-    pub fn turns(&self) -> usize {
+    pub(crate) fn turns(&self) -> usize {
         if self.is_strip {
             self.strip.turns()
         } else {
@@ -81,7 +86,7 @@ impl AnyFloor {
         }
     }
 
-    pub fn phase(&self) -> usize {
+    pub(crate) fn phase(&self) -> usize {
         if self.is_strip {
             self.strip.phase()
         } else {
@@ -89,7 +94,7 @@ impl AnyFloor {
         }
     }
 
-    pub fn round(&self) -> usize {
+    pub(crate) fn round(&self) -> usize {
         if self.is_strip {
             self.strip.round()
         } else {
@@ -97,7 +102,7 @@ impl AnyFloor {
         }
     }
 
-    pub fn is_over(&self) -> bool {
+    pub(crate) fn is_over(&self) -> bool {
         if self.is_strip {
             self.strip.is_over()
         } else {

@@ -10,7 +10,7 @@ use std::error::AnyError;
 use std::str::from_utf8;
 
 /// Writes the answer to one line: nothing for a blank line or one that begins with `#`.
-pub fn answer(
+pub(crate) fn answer(
     heap: Global,
     session: &mut Session,
     line: &[u8],

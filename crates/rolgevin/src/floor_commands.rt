@@ -10,7 +10,11 @@ use std::error::AnyError;
 use std::fmt::Write;
 
 /// `air board|strip`
-pub fn air(session: &mut Session, arguments: &[&str], out: &mut String) -> Result<(), AnyError> {
+pub(crate) fn air(
+    session: &mut Session,
+    arguments: &[&str],
+    out: &mut String,
+) -> Result<(), AnyError> {
     match arguments {
         ["board"] => {
             session.floor = AnyFloor::new(false);
@@ -25,7 +29,11 @@ pub fn air(session: &mut Session, arguments: &[&str], out: &mut String) -> Resul
 }
 
 /// `open R B`
-pub fn open(session: &mut Session, arguments: &[&str], out: &mut String) -> Result<(), AnyError> {
+pub(crate) fn open(
+    session: &mut Session,
+    arguments: &[&str],
+    out: &mut String,
+) -> Result<(), AnyError> {
     let [rogues, bits] = arguments else {
         return text::error(out, "open takes a mask of rogues and a mask of bits");
     };
@@ -67,7 +75,7 @@ fn show(answer: Answer, counted: &str, out: &mut String) -> Result<(), AnyError>
 }
 
 /// `speak S`, `held S`, `decision S`: calls for one site
-pub fn for_site(
+pub(crate) fn for_site(
     session: &mut Session,
     name: &str,
     arguments: &[&str],
@@ -91,7 +99,7 @@ pub fn for_site(
 }
 
 /// `transmit S W`, `recalled S W`: calls for one site with a word
-pub fn with_word(
+pub(crate) fn with_word(
     session: &mut Session,
     name: &str,
     arguments: &[&str],
@@ -117,7 +125,11 @@ pub fn with_word(
 }
 
 /// `turn`
-pub fn turn(session: &mut Session, arguments: &[&str], out: &mut String) -> Result<(), AnyError> {
+pub(crate) fn turn(
+    session: &mut Session,
+    arguments: &[&str],
+    out: &mut String,
+) -> Result<(), AnyError> {
     if arguments.len() != 0 {
         return text::error(out, "turn takes no arguments");
     }
@@ -129,7 +141,11 @@ pub fn turn(session: &mut Session, arguments: &[&str], out: &mut String) -> Resu
 }
 
 /// `lanes`
-pub fn lanes(session: &Session, arguments: &[&str], out: &mut String) -> Result<(), AnyError> {
+pub(crate) fn lanes(
+    session: &Session,
+    arguments: &[&str],
+    out: &mut String,
+) -> Result<(), AnyError> {
     if arguments.len() != 0 {
         return text::error(out, "lanes takes no arguments");
     }
@@ -155,7 +171,11 @@ fn lane(floor: &AnyFloor, site: u8, out: &mut String) -> Result<(), AnyError> {
 }
 
 /// `notebook S`
-pub fn notebook(session: &Session, arguments: &[&str], out: &mut String) -> Result<(), AnyError> {
+pub(crate) fn notebook(
+    session: &Session,
+    arguments: &[&str],
+    out: &mut String,
+) -> Result<(), AnyError> {
     let [site] = arguments else {
         return text::error(out, "notebook takes a site");
     };
@@ -171,7 +191,11 @@ pub fn notebook(session: &Session, arguments: &[&str], out: &mut String) -> Resu
 }
 
 /// `state`
-pub fn state(session: &Session, arguments: &[&str], out: &mut String) -> Result<(), AnyError> {
+pub(crate) fn state(
+    session: &Session,
+    arguments: &[&str],
+    out: &mut String,
+) -> Result<(), AnyError> {
     if arguments.len() != 0 {
         return text::error(out, "state takes no arguments");
     }

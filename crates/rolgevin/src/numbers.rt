@@ -50,7 +50,7 @@ fn number(bytes: &[u8], base: u32) -> Option<u32>
 }
 
 /// A word or a mask: hexadecimal digits, with or without 0x in front, below 2^32.
-pub fn hex(token: &[u8]) -> Option<u32>
+pub(crate) fn hex(token: &[u8]) -> Option<u32>
     ensures { λ r. ⌜ r ≡ number-in 16 (hex-digits (now (token .entry))) ⌝ }
 {
     if token.len() >= 2 && token[0] == b'0' && token[1] == b'x' {
@@ -61,14 +61,14 @@ pub fn hex(token: &[u8]) -> Option<u32>
 }
 
 /// A site, a length, a place or another count: decimal digits, below 2^32.
-pub fn decimal(token: &[u8]) -> Option<u32>
+pub(crate) fn decimal(token: &[u8]) -> Option<u32>
     ensures { λ r. ⌜ r ≡ number-in 10 (now (token .entry)) ⌝ }
 {
     number(token, 10)
 }
 
 /// Words or masks, each in hexadecimal; nothing where one is not.
-pub fn hex_list(heap: Global, tokens: &[&str]) -> Result<Option<Vec<u32>>, AllocError> {
+pub(crate) fn hex_list(heap: Global, tokens: &[&str]) -> Result<Option<Vec<u32>>, AllocError> {
     let mut words = Vec::new(heap);
     for token in tokens {
         let Some(word) = hex(token.as_bytes()) else {

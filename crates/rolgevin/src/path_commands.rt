@@ -48,7 +48,7 @@ fn show(word: PathWord, out: &mut String) -> Result<(), AnyError> {
 }
 
 /// `read W`
-pub fn read(arguments: &[&str], out: &mut String) -> Result<(), AnyError> {
+pub(crate) fn read(arguments: &[&str], out: &mut String) -> Result<(), AnyError> {
     let [token] = arguments else {
         return text::error(out, "read takes one word");
     };
@@ -70,7 +70,7 @@ fn word_of(kind: u32, tail: u8, sites: &[u8]) -> Result<PathWord, Refusal> {
 }
 
 /// `write KIND TAIL S..`
-pub fn write(heap: Global, arguments: &[&str], out: &mut String) -> Result<(), AnyError> {
+pub(crate) fn write(heap: Global, arguments: &[&str], out: &mut String) -> Result<(), AnyError> {
     let mut numbers = Vec::new(heap);
     for token in arguments {
         let Some(number) = numbers::decimal(token.as_bytes()) else {

@@ -18,7 +18,7 @@ pub struct AnyAir {
 
 impl AnyAir {
     /// An empty strip, or an empty board.
-    pub fn new(is_strip: bool) -> AnyAir {
+    pub(crate) fn new(is_strip: bool) -> AnyAir {
         AnyAir {
             board: Board::new(),
             strip: Strip::new(),
@@ -26,7 +26,7 @@ impl AnyAir {
         }
     }
 
-    pub fn put(&mut self, site: u8, word: u32) -> Result<usize, Refusal> {
+    pub(crate) fn put(&mut self, site: u8, word: u32) -> Result<usize, Refusal> {
         if self.is_strip {
             self.strip.put(site, word)
         } else {
@@ -34,7 +34,7 @@ impl AnyAir {
         }
     }
 
-    pub fn count(&self, site: u8) -> usize {
+    pub(crate) fn count(&self, site: u8) -> usize {
         if self.is_strip {
             self.strip.count(site)
         } else {
@@ -42,7 +42,7 @@ impl AnyAir {
         }
     }
 
-    pub fn at(&self, site: u8, position: usize) -> Option<u32> {
+    pub(crate) fn at(&self, site: u8, position: usize) -> Option<u32> {
         if self.is_strip {
             self.strip.at(site, position)
         } else {
@@ -50,7 +50,7 @@ impl AnyAir {
         }
     }
 
-    pub fn clear(&mut self) {
+    pub(crate) fn clear(&mut self) {
         if self.is_strip {
             self.strip.clear();
         } else {
@@ -70,7 +70,7 @@ pub struct Session {
 impl Session {
     /// The start, to which `reset` goes back: the built-in plan, a new floor over a board, and an
     /// empty board.
-    pub fn new() -> Session {
+    pub(crate) fn new() -> Session {
         Session {
             plan: Plan::built_in(),
             floor: AnyFloor::new(false),

@@ -27,7 +27,7 @@ fn refused(out: &mut String, fault: SheetRefusal) -> Result<(), AnyError> {
 }
 
 /// `sheet W..`
-pub fn sheet(
+pub(crate) fn sheet(
     heap: Global,
     session: &mut Session,
     arguments: &[&str],
@@ -48,7 +48,11 @@ pub fn sheet(
 }
 
 /// `plan`
-pub fn plan(session: &Session, arguments: &[&str], out: &mut String) -> Result<(), AnyError> {
+pub(crate) fn plan(
+    session: &Session,
+    arguments: &[&str],
+    out: &mut String,
+) -> Result<(), AnyError> {
     if arguments.len() != 0 {
         return text::error(out, "plan takes no arguments");
     }
@@ -61,7 +65,7 @@ pub fn plan(session: &Session, arguments: &[&str], out: &mut String) -> Result<(
 }
 
 /// `items W..`
-pub fn items(heap: Global, arguments: &[&str], out: &mut String) -> Result<(), AnyError> {
+pub(crate) fn items(heap: Global, arguments: &[&str], out: &mut String) -> Result<(), AnyError> {
     let Some(words) = numbers::hex_list(heap, arguments)? else {
         return text::error(out, "items takes words of up to eight hexadecimal digits");
     };
@@ -128,7 +132,11 @@ fn path(out: &mut String, word: u32) -> Result<(), AnyError> {
 }
 
 /// `route F U V`
-pub fn route(session: &Session, arguments: &[&str], out: &mut String) -> Result<(), AnyError> {
+pub(crate) fn route(
+    session: &Session,
+    arguments: &[&str],
+    out: &mut String,
+) -> Result<(), AnyError> {
     let [set, from, to] = arguments else {
         return text::error(out, "route takes a mask and two sites");
     };
@@ -155,7 +163,7 @@ pub fn route(session: &Session, arguments: &[&str], out: &mut String) -> Result<
 }
 
 /// `fan F V A`
-pub fn fan(session: &Session, arguments: &[&str], out: &mut String) -> Result<(), AnyError> {
+pub(crate) fn fan(session: &Session, arguments: &[&str], out: &mut String) -> Result<(), AnyError> {
     let [set, at, among] = arguments else {
         return text::error(out, "fan takes a mask, a site and a mask");
     };

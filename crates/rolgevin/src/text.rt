@@ -4,19 +4,19 @@ use std::error::AnyError;
 use std::fmt::Write;
 
 /// `error`, for a line that is no command.
-pub fn error(out: &mut String, why: &str) -> Result<(), AnyError> {
+pub(crate) fn error(out: &mut String, why: &str) -> Result<(), AnyError> {
     write!(out, "error  # {why}")?;
     Ok(())
 }
 
 /// `ok` alone, with plain words.
-pub fn ok(out: &mut String, words: &str) -> Result<(), AnyError> {
+pub(crate) fn ok(out: &mut String, words: &str) -> Result<(), AnyError> {
     write!(out, "ok  # {words}")?;
     Ok(())
 }
 
 /// `refused` with the number, and what it means.
-pub fn refused(out: &mut String, refusal: Refusal) -> Result<(), AnyError> {
+pub(crate) fn refused(out: &mut String, refusal: Refusal) -> Result<(), AnyError> {
     let number = refusal.number();
     let words = meaning(refusal);
     write!(out, "refused {number}  # {words}")?;
@@ -24,13 +24,13 @@ pub fn refused(out: &mut String, refusal: Refusal) -> Result<(), AnyError> {
 }
 
 /// `ok none`, with plain words.
-pub fn none(out: &mut String, words: &str) -> Result<(), AnyError> {
+pub(crate) fn none(out: &mut String, words: &str) -> Result<(), AnyError> {
     write!(out, "ok none  # {words}")?;
     Ok(())
 }
 
 /// Some words, a space before each.
-pub fn words(out: &mut String, words: &[u32]) -> Result<(), AnyError> {
+pub(crate) fn words(out: &mut String, words: &[u32]) -> Result<(), AnyError> {
     for word in words {
         write!(out, " {word:08X}")?;
     }
@@ -38,7 +38,7 @@ pub fn words(out: &mut String, words: &[u32]) -> Result<(), AnyError> {
 }
 
 /// Some sites with dashes between them.
-pub fn dashed(out: &mut String, sites: &[u8]) -> Result<(), AnyError> {
+pub(crate) fn dashed(out: &mut String, sites: &[u8]) -> Result<(), AnyError> {
     for (i, site) in sites.iter().enumerate() {
         if i > 0 {
             out.push('-')?;
@@ -49,7 +49,7 @@ pub fn dashed(out: &mut String, sites: &[u8]) -> Result<(), AnyError> {
 }
 
 // A refusal in plain words.
-pub fn meaning(refusal: Refusal) -> &'static str {
+pub(crate) fn meaning(refusal: Refusal) -> &'static str {
     match refusal {
         Refusal::SheetSize => "a sheet has 1 to 1,024 words",
         Refusal::Head => "the first word is no lawful head",
@@ -76,12 +76,12 @@ pub fn meaning(refusal: Refusal) -> &'static str {
 }
 
 /// A number as a byte, and 255 for a larger one: no kind, tail or site is as large.
-pub fn byte(number: u32) -> u8 {
+pub(crate) fn byte(number: u32) -> u8 {
     number.min(255) as u8
 }
 
 /// Some words without the zeros at their end.
-pub fn trimmed(words: &[u32]) -> &[u32] {
+pub(crate) fn trimmed(words: &[u32]) -> &[u32] {
     let mut len = 0;
     for (i, word) in words.iter().enumerate() {
         if *word != 0 {
