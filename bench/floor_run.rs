@@ -1,6 +1,6 @@
 // A plain Rust floor, to measure the engine's rounds against: each word that is heard is decoded.
 // It reads the console's `sheet`, `open`, `transmit`, `speak`, `turn` and `decision` lines (sheets are taken as checked)
-// and answers as the console does, without the plain words. Written from docs/ALGORITHM.md; build with `rustc -O`.
+// and answers as the console does, without the plain words. By the rules of docs/ALGORITHM.md; build with `rustc -O`.
 use std::io::{self, BufRead, Write};
 
 #[derive(Default)]

@@ -1,6 +1,6 @@
 // A plain Rust reading of the sheet check, to measure the engine's loading against.
 // It reads `sheet W..` lines as the console does and answers `ok` or `refused NUMBER PLACE`.
-// Written from docs/FORMATS.md and docs/REFUSALS.md; build with `rustc -O`.
+// By the rules of docs/FORMATS.md and docs/REFUSALS.md; build with `rustc -O`.
 use std::io::{self, BufRead, Write};
 
 struct Sheet {
