@@ -1,3 +1,5 @@
+#![tactic(auto)]
+
 mod air;
 mod board;
 mod board_air;

@@ -1,4 +1,5 @@
 // Both airs on many cases.
+#![tactic(auto)]
 
 #[cfg(test)]
 mod tests {

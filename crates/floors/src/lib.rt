@@ -1,3 +1,5 @@
+#![tactic(auto)]
+
 mod asking;
 mod floor;
 mod ground;

@@ -1,4 +1,5 @@
 // Runs of the triangle and of the pair, over both airs.
+#![tactic(auto)]
 
 #[cfg(test)]
 mod tests {

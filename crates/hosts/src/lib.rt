@@ -1,4 +1,6 @@
 // Functions for hosts that are written in C or Rust: they take numbers and slices of words, and any of these.
+#![tactic(auto)]
+
 mod beginning;
 mod books;
 mod calls;

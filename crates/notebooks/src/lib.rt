@@ -1,3 +1,5 @@
+#![tactic(auto)]
+
 ghost use Rattle.notebooks.specs.Laws.{FloodLaws, NotebookLaw};
 
 /// A flood word is read back, and no other word says the same.

@@ -1,4 +1,6 @@
 // The console: commands from standard input, a line each, and one line of answer to each.
+#![tactic(auto)]
+
 mod air_commands;
 mod any_floor;
 mod arguments;

@@ -1,3 +1,5 @@
+#![tactic(auto)]
+
 mod ears;
 mod hearing;
 mod laws;

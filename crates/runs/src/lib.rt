@@ -1,3 +1,5 @@
+#![tactic(auto)]
+
 mod calls;
 
 ghost use Rattle.runs.specs.Examples.{Examples};

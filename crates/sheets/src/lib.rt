@@ -1,3 +1,5 @@
+#![tactic(auto)]
+
 pub mod fans;
 pub mod parts;
 mod reader;

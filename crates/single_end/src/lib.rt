@@ -1,3 +1,5 @@
+#![tactic(auto)]
+
 mod beginning;
 mod done;
 mod in_round;

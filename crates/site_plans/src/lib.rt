@@ -1,3 +1,5 @@
+#![tactic(auto)]
+
 mod knowing;
 mod routing;
 mod site_plan;

@@ -1,3 +1,5 @@
+#![tactic(auto)]
+
 mod mask;
 mod parting;
 mod refusal;

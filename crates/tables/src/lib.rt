@@ -1,3 +1,5 @@
+#![tactic(auto)]
+
 mod draft;
 mod expected_path;
 mod laws;

@@ -1,3 +1,5 @@
+#![tactic(auto)]
+
 ghost use Rattle.theory.specs.Complete.{CompleteLaw};
 ghost use Rattle.theory.specs.Examples.{Table, TriangleAndPair};
 ghost use Rattle.theory.specs.Expected.{ExpectedLaw};

@@ -1,3 +1,5 @@
+#![tactic(auto)]
+
 pub mod fields;
 mod kind;
 mod kinds;
