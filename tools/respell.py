@@ -16,7 +16,9 @@ import sys
 ANSWERS = {"Answers.antt", "Invariants.antt", "Choices.antt", "Proof.antt"}
 WORD = r"[^\s:(){}.,;`\[\]\"λ→]+"
 HEAD = re.compile(rf"^(?:(?:abbrev|unfoldable|pub|record|data|ruleset|mutual)\s+)*({WORD})\s*[:({{]")
+INNER = re.compile(rf"^\s+(?:(?:abbrev|unfoldable|pub|record|data)\s+)+({WORD})\s*[:({{]")
 FIELD = re.compile(rf"^\s+(?:pub )?({WORD})\s*:[^:]")
+ALIAS = re.compile(rf"\bas ({WORD})")
 GOAL = re.compile(rf"^(?:(?:abbrev|pub)\s+)*({WORD})\s*:\s*(?:\(.*\)\s*→\s*)?goal\.")
 TOKEN = re.compile(r"(?<![\w'?⊎≡-])[A-Za-zℕ][\w'?]*(?:-[\w'?]+)+(?![\w'?-])")
 ODD = {"getD-in": "get_or_in", "site-word": "word_for_site"}
@@ -33,17 +35,26 @@ def files(*endings):
         yield "README.md"
 
 
+def aliases(line):
+    return {name for name in ALIAS.findall(line) if "-" in name} if line.startswith(("use ", "ghost use ")) else set()
+
+
 def defined():
     own, goals = set(), set()
+    for path in files(".rt"):
+        with open(path, encoding="utf-8") as f:
+            for line in f:
+                own |= aliases(line)
     for path in files(".antt"):
         answers = os.path.basename(path) in ANSWERS
         with open(path, encoding="utf-8") as f:
             for line in f:
+                own |= aliases(line)
                 goal = GOAL.match(line)
                 if goal:
                     goals.add(goal.group(1))
                     continue
-                found = HEAD.match(line) or (None if answers else FIELD.match(line))
+                found = HEAD.match(line) or INNER.match(line) or (None if answers else FIELD.match(line))
                 if found and "-" in found.group(1) and not line.startswith(("use ", "--", "mod ")):
                     own.add(found.group(1))
     return own - goals

@@ -6,7 +6,7 @@ use Rattle.runs.specs.declared.calls.Call.{Call}
 use Rattle.runs.specs.declared.calls.Answer.{Answer}
 use Rattle.runs.specs.State.{State, opened}
 use Rattle.runs.specs.Replies.{open_reply}
-use Rattle.runs.specs.Runs.{Entry, Ran, entries, after as left_by, answers as answers-to}
+use Rattle.runs.specs.Runs.{Entry, Ran, entries, after as left_by, answers as answers_to}
 use Rattle.runs.specs.Guarantee.{Guaranteed}
 
 -- Some calls were performed on a floor, one after another, and were answered so; they led from one state to another.
@@ -22,7 +22,7 @@ pub record Performed (size : ℕ) (first : State) (calls : List Call) (answers :
 pub record RanFromOpen (size : ℕ) (N : Network) (rogues bits : ℕ) (calls : List Call) (old new : List Answer) (last : State) (k : ℕ) : Type 0 where
   pub accepted : open_reply N rogues bits ≡ Ok tt
   pub count : k ≡ min (length calls) (length old)
-  pub answers : new ≡ answers-to size (opened N rogues bits) (take k calls) ++ drop k old
+  pub answers : new ≡ answers_to size (opened N rogues bits) (take k calls) ++ drop k old
   pub after : last ≡ left_by size (opened N rogues bits) (take k calls)
   pub guarantee : Guaranteed size N rogues bits (entries (take k calls) (take k new)) last
 

@@ -1,5 +1,5 @@
 ghost use Rattle.std.specs.Prelude.{◌≡◌, ◌≤◌, min, ◌++◌, length, take, drop};
-ghost use Rattle.runs.specs.Runs.{after as left_by, answers as answers-to};
+ghost use Rattle.runs.specs.Runs.{after as left_by, answers as answers_to};
 ghost use Rattle.plans.specs.Plans.{network};
 ghost use Rattle.floors.specs.Lists.{Performed, OpensAndRuns};
 ghost use Rattle.floors.specs.Views.{view, plan_sheet};
@@ -14,7 +14,7 @@ impl<A: Air> Floor<A> {
     // Performs the first of some calls.
     fn perform_first(&mut self, count: usize, calls: &[Call], answers: &mut [Answer])
         requires { (count ≤ length calls.now) × (count ≤ length answers.old) }
-        ensures answers { answers.new ≡ answers-to size (view lanes self.old) (take count calls.now) ++ drop count answers.old }
+        ensures answers { answers.new ≡ answers_to size (view lanes self.old) (take count calls.now) ++ drop count answers.old }
         ensures after { view lanes self.new ≡ left_by size (view lanes self.old) (take count calls.now) }
         ensures plan { plan_sheet self.new ≡ plan_sheet self.old }
         ensures guarantee { Performed size (view lanes self.old) (take count calls.now) (take count answers.new) (view lanes self.new) }
@@ -28,7 +28,7 @@ impl<A: Air> Floor<A> {
     /// calls, the guarantee over lists of calls holds of them, and of those since the floor was opened with them.
     pub fn perform(&mut self, calls: &[Call], answers: &mut [Answer]) -> usize
         ensures count { result ≡ min (length calls.now) (length answers.old) }
-        ensures answers { answers.new ≡ answers-to size (view lanes self.old) (take result calls.now) ++ drop result answers.old }
+        ensures answers { answers.new ≡ answers_to size (view lanes self.old) (take result calls.now) ++ drop result answers.old }
         ensures after { view lanes self.new ≡ left_by size (view lanes self.old) (take result calls.now) }
         ensures plan { plan_sheet self.new ≡ plan_sheet self.old }
         ensures guarantee { Performed size (view lanes self.old) (take result calls.now) (take result answers.new) (view lanes self.new) }

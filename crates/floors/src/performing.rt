@@ -1,5 +1,5 @@
 ghost use Rattle.std.specs.Prelude.{◌≡◌};
-ghost use Rattle.runs.specs.Runs.{reply, next, counted as counted-as, told as told-as};
+ghost use Rattle.runs.specs.Runs.{reply, next, counted as counted_as, told as told_as};
 ghost use Rattle.floors.specs.Views.{view, plan_sheet};
 
 use crate::floor::Floor;
@@ -9,7 +9,7 @@ use sites::Refusal;
 
 // The answer of a call that counts.
 fn counted(res: Result<usize, Refusal>) -> Answer
-    ensures { result ≡ counted-as res }
+    ensures { result ≡ counted_as res }
 {
     match res {
         Ok(count) => Answer::Count(count),
@@ -19,7 +19,7 @@ fn counted(res: Result<usize, Refusal>) -> Answer
 
 // The answer of a call for a bit.
 fn told(res: Result<bool, Refusal>) -> Answer
-    ensures { result ≡ told-as res }
+    ensures { result ≡ told_as res }
 {
     match res {
         Ok(bit) => Answer::Bit(bit),

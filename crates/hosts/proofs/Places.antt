@@ -10,11 +10,11 @@ use Rattle.sites.proofs.Lists.{get_or_in}
 use Rattle.sites.proofs.Positions.{first_is}
 use Rattle.sites.proofs.Suspects.{suspects_are}
 use Rattle.sheets.specs.declared.refusal.SheetRefusal.{SheetRefusal}
-use Rattle.sheets.specs.Parts.{later, site-count, rogue-limit, head?, word_at}
-use Rattle.sheets.specs.Rows.{size-fault, head-fault, kind-fault, edge-fault, path-fault, fan-fault, bad_kind, bad-edge, bad-path, bad-fan}
+use Rattle.sheets.specs.Parts.{later, site_count, rogue_limit, head?, word_at}
+use Rattle.sheets.specs.Rows.{size_fault, head_fault, kind_fault, edge_fault, path_fault, fan_fault, bad_kind, bad_edge, bad_path, bad_fan}
 use Rattle.sheets.specs.Refusals.{told, and_then, well_formed}
 use Rattle.sheets.proofs.Passed.{sites_range}
-use Rattle.plans.specs.Complete.{judged, sets, first-set, routed, fanned, route-fault, missing-fan}
+use Rattle.plans.specs.Complete.{judged, sets, first_set, routed, fanned, route_fault, missing_fan}
 
 abbrev Low : Result (Unit {0}) SheetRefusal → Type 0
 Low (Ok x) = Unit {0}
@@ -44,7 +44,7 @@ low_mask : (n x : ℕ) → n ≤ 6 → x < 2 ^ n → x < 2 ^ 32
 low_mask n x h l = let up : 2 ^ n ≤ 2 ^ 6 = pow_mono h in omega (arith, up)
 
 module _ (ws : List ℕ) where
-  short : told SheetSize (size-fault ws) ≡ Ok tt → length ws ≤ 1024
+  short : told SheetSize (size_fault ws) ≡ Ok tt → length ws ≤ 1024
   short e = leb-true (length ws) 1024 (and_parts (ltb 0 (length ws)) (leb (length ws) 1024) (passed SheetSize _ e)).1
 
   word_place : length ws ≤ 1024 → (p : ℕ → Bool) (k : ℕ) → first_from p 1 (later ws) ≡ Some k → k < 2 ^ 32
@@ -52,26 +52,26 @@ module _ (ws : List ℕ) where
 
   rows_low : Low (well_formed ws)
   rows_low =
-      then_low _ _ (told_low SheetSize (size-fault ws) (first_place _)) (λ s.
+      then_low _ _ (told_low SheetSize (size_fault ws) (first_place _)) (λ s.
       let h = short s in
-      then_low _ _ (told_low Head (head-fault ws) (first_place _)) (λ _.
-      then_low _ _ (told_low Kind (kind-fault ws) (word_place h (bad_kind ws))) (λ _.
-      then_low _ _ (told_low Edge (edge-fault ws) (word_place h (bad-edge ws))) (λ _.
-      then_low _ _ (told_low Path (path-fault ws) (word_place h (bad-path ws))) (λ _.
-      told_low Fan (fan-fault ws) (word_place h (bad-fan ws)))))))
+      then_low _ _ (told_low Head (head_fault ws) (first_place _)) (λ _.
+      then_low _ _ (told_low Kind (kind_fault ws) (word_place h (bad_kind ws))) (λ _.
+      then_low _ _ (told_low Edge (edge_fault ws) (word_place h (bad_edge ws))) (λ _.
+      then_low _ _ (told_low Path (path_fault ws) (word_place h (bad_path ws))) (λ _.
+      told_low Fan (fan_fault ws) (word_place h (bad_fan ws)))))))
 
-  set_place : well_formed ws ≡ Ok tt → (t : ℕ → Bool) (k : ℕ) → first-set ws t ≡ Some k → k < 2 ^ 32
+  set_place : well_formed ws ≡ Ok tt → (t : ℕ → Bool) (k : ℕ) → first_set ws t ≡ Some k → k < 2 ^ 32
   set_place ok t k e =
       let q = mapped_is (λ j. get_or (sets ws) j 0) _ k e in
       let r = first_is _ 0 (length (sets ws)) q.0 q.1 in
-      let below = (suspects_are (site-count ws) (rogue-limit ws) (get_or (sets ws) q.0 0) (get_or_in (sets ws) 0 q.0 (omega (arith, r.2)))).0 in
-      low_mask (site-count ws) k (sites_range ws ok).1 (rw q.2 below)
+      let below = (suspects_are (site_count ws) (rogue_limit ws) (get_or (sets ws) q.0 0) (get_or_in (sets ws) 0 q.0 (omega (arith, r.2)))).0 in
+      low_mask (site_count ws) k (sites_range ws ok).1 (rw q.2 below)
 
   judged_low : Low (judged ws)
   judged_low =
       then_low _ _ rows_low (λ ok.
-      then_low _ _ (told_low NoRoute (route-fault ws) (set_place ok (routed ws))) (λ _.
-      told_low NoFan (missing-fan ws) (set_place ok (fanned ws))))
+      then_low _ _ (told_low NoRoute (route_fault ws) (set_place ok (routed ws))) (λ _.
+      told_low NoFan (missing_fan ws) (set_place ok (fanned ws))))
 
 err_low : (r : Result (Unit {0}) SheetRefusal) (e : SheetRefusal) → r ≡ Err e → Low r → e.place < 2 ^ 32
 err_low (Ok x) e s l = absurd (let z : ◌≡◌ {A = ℕ} 0 1 = cc in omega arith)

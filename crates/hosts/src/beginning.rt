@@ -1,5 +1,5 @@
 ghost use Rattle.std.specs.Prelude.{◌≡◌};
-ghost use Rattle.hosts.specs.Answered.{answered as answered-by, left_by};
+ghost use Rattle.hosts.specs.Answered.{answered as answered_by, left_by};
 ghost use Rattle.hosts.specs.Ends.{begin_on, begin_outcome, kept_over};
 
 use crate::end_words::EndWords;
@@ -21,7 +21,7 @@ fn begun(sheet: &[u32], site: u32, bit: u32) -> Result<EndWords, HostRefusal>
 
 // Begins an end and keeps it in a host's words.
 fn begin(sheet: &[u32], site: u32, bit: u32, state: &mut [u32]) -> Result<(), HostRefusal>
-    ensures answer { answered-by result ≡ answered-by (begin_outcome sheet.now site bit state.old) }
+    ensures answer { answered_by result ≡ answered_by (begin_outcome sheet.now site bit state.old) }
     ensures state { state.new ≡ left_by (begin_outcome sheet.now site bit state.old) (λ w. kept_over w state.old) state.old }
 {
     if state.len() < 7 {
@@ -34,7 +34,7 @@ fn begin(sheet: &[u32], site: u32, bit: u32, state: &mut [u32]) -> Result<(), Ho
 /// Begins a single end for a site with a bit, and puts its seven words into `state`.
 #[unsafe(no_mangle)]
 pub extern "C" fn rolgevin_end_begin(sheet: &[u32], site: u32, bit: u32, state: &mut [u32]) -> u32
-    ensures answer { result ≡ answered-by (begin_outcome sheet.now site bit state.old) }
+    ensures answer { result ≡ answered_by (begin_outcome sheet.now site bit state.old) }
     ensures state { state.new ≡ left_by (begin_outcome sheet.now site bit state.old) (λ w. kept_over w state.old) state.old }
 {
     answered(begin(sheet, site, bit, state))

@@ -1,6 +1,6 @@
 ghost use Rattle.std.specs.Prelude.{◌≡◌, ◌^◌, ◌<◌, ◌≤◌, true, length, ◌==◌};
 ghost use Rattle.single_end.specs.States.{seen_round, seen_weighing};
-ghost use Rattle.hosts.specs.Ends.{end_at, kept_over, bit_word, stands as are-numbers, round_in, weighing_in, bit_in, round_kept, weighing_kept, done_kept, WordsFit, RoundFits};
+ghost use Rattle.hosts.specs.Ends.{end_at, kept_over, bit_word, stands as are_numbers, round_in, weighing_in, bit_in, round_kept, weighing_kept, done_kept, WordsFit, RoundFits};
 ghost use Rattle.hosts.specs.Restored.{round_made, weighing_made};
 
 use crate::end_words::EndWords;
@@ -55,14 +55,14 @@ impl EndWords {
 
     // Whether they are numbers of an end: the engine keeps n and f in 8 bits, and the site is below n.
     fn stands(self) -> bool
-        ensures { result ≡ are-numbers self }
+        ensures { result ≡ are_numbers self }
     {
         self.bit < 2 && self.site < self.n && self.n < 256 && self.f < 256
     }
 
     // The numbers that they tell.
     fn numbers(self) -> Numbers
-        requires { are-numbers self ≡ true }
+        requires { are_numbers self ≡ true }
         ensures { result ≡ record { site = self.site; bit = (self.bit == 1); phase = self.phase; round = self.round; n = self.n; f = self.f } }
     {
         Numbers {

@@ -1,6 +1,6 @@
 ghost use Rattle.std.specs.Prelude.{◌≡◌};
 ghost use Rattle.hosts.specs.declared.refused.HostRefusal.TheVariants.{Engine};
-ghost use Rattle.hosts.specs.Answered.{host_number, answered as answered-by, site_of};
+ghost use Rattle.hosts.specs.Answered.{host_number, answered as answered_by, site_of};
 
 use crate::refused::HostRefusal;
 use sites::Refusal;
@@ -28,7 +28,7 @@ impl HostRefusal {
 
 // What a host is answered: 0 where the call was accepted.
 pub(crate) fn answered(res: Result<(), HostRefusal>) -> u32
-    ensures { result ≡ answered-by res }
+    ensures { result ≡ answered_by res }
 {
     match res {
         Ok(()) => 0,

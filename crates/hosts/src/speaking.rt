@@ -1,6 +1,6 @@
 ghost use Rattle.std.specs.Prelude.{◌≡◌, ◌≤◌, length};
 ghost use Rattle.plans.specs.Plans.{network};
-ghost use Rattle.hosts.specs.Answered.{answered as answered-by, left_by};
+ghost use Rattle.hosts.specs.Answered.{answered as answered_by, left_by};
 ghost use Rattle.hosts.specs.Ends.{speak_on, speak_outcome, counted_over};
 
 use crate::books::{is_short, notebook_of, write_lane};
@@ -20,7 +20,7 @@ fn speak_round(
     words: &mut [u32],
 ) -> Result<(), HostRefusal>
     requires { 121 ≤ length words.old }
-    ensures answer { answered-by result ≡ answered-by (speak_on (network plan.now) end book.now.words) }
+    ensures answer { answered_by result ≡ answered_by (speak_on (network plan.now) end book.now.words) }
     ensures words { words.new ≡ left_by (speak_on (network plan.now) end book.now.words) (λ ws. counted_over ws words.old) words.old }
 {
     let round = end.round()?;
@@ -39,7 +39,7 @@ fn speak(
     notebook: &[u32],
     words: &mut [u32],
 ) -> Result<(), HostRefusal>
-    ensures answer { answered-by result ≡ answered-by (speak_outcome sheet.now state.now notebook.now words.old) }
+    ensures answer { answered_by result ≡ answered_by (speak_outcome sheet.now state.now notebook.now words.old) }
     ensures words { words.new ≡ left_by (speak_outcome sheet.now state.now notebook.now words.old) (λ ws. counted_over ws words.old) words.old }
 {
     if is_short(state, notebook) {
@@ -60,7 +60,7 @@ pub extern "C" fn rolgevin_end_speak(
     notebook: &[u32],
     words: &mut [u32],
 ) -> u32
-    ensures answer { result ≡ answered-by (speak_outcome sheet.now state.now notebook.now words.old) }
+    ensures answer { result ≡ answered_by (speak_outcome sheet.now state.now notebook.now words.old) }
     ensures words { words.new ≡ left_by (speak_outcome sheet.now state.now notebook.now words.old) (λ ws. counted_over ws words.old) words.old }
 {
     answered(speak(sheet, state, notebook, words))

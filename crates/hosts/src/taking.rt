@@ -2,7 +2,7 @@ ghost use Rattle.std.specs.Prelude.{◌≡◌, ◌++◌, drop};
 ghost use Rattle.airs.specs.Boards.{board_lanes};
 ghost use Rattle.plans.specs.Plans.{network};
 ghost use Rattle.single_end.specs.Calls.{seen_taken};
-ghost use Rattle.hosts.specs.Answered.{answered as answered-by, left_by};
+ghost use Rattle.hosts.specs.Answered.{answered as answered_by, left_by};
 ghost use Rattle.hosts.specs.Ends.{after_taking, take_on, take_outcome, state_in, kept_over, TakenFits};
 
 use crate::books::{board_of, is_short, notebook_of, write_book};
@@ -54,7 +54,7 @@ fn take(
     heard: &[u32],
     notebook: &mut [u32],
 ) -> Result<(), HostRefusal>
-    ensures answer { answered-by result ≡ answered-by (take_outcome sheet.now state.old heard.now notebook.old) }
+    ensures answer { answered_by result ≡ answered_by (take_outcome sheet.now state.old heard.now notebook.old) }
     ensures state { state.new ≡ left_by (take_outcome sheet.now state.old heard.now notebook.old) (λ s. kept_over s.state state.old) state.old }
     ensures notebook { notebook.new ≡ left_by (take_outcome sheet.now state.old heard.now notebook.old) (λ s. s.book ++ drop 325 notebook.old) notebook.old }
 {
@@ -77,7 +77,7 @@ pub extern "C" fn rolgevin_end_take(
     heard: &[u32],
     notebook: &mut [u32],
 ) -> u32
-    ensures answer { result ≡ answered-by (take_outcome sheet.now state.old heard.now notebook.old) }
+    ensures answer { result ≡ answered_by (take_outcome sheet.now state.old heard.now notebook.old) }
     ensures state { state.new ≡ left_by (take_outcome sheet.now state.old heard.now notebook.old) (λ s. kept_over s.state state.old) state.old }
     ensures notebook { notebook.new ≡ left_by (take_outcome sheet.now state.old heard.now notebook.old) (λ s. s.book ++ drop 325 notebook.old) notebook.old }
 {

@@ -1,7 +1,7 @@
 ghost use Rattle.std.specs.Prelude.{◌≡◌};
 ghost use Rattle.plans.specs.Plans.{network};
 ghost use Rattle.single_end.specs.Calls.{seen_weighed};
-ghost use Rattle.hosts.specs.Answered.{answered as answered-by, left_by};
+ghost use Rattle.hosts.specs.Answered.{answered as answered_by, left_by};
 ghost use Rattle.hosts.specs.Ends.{after_weighing, weigh_on, weigh_outcome, kept_over, WeighedFits};
 
 use crate::books::{is_short, notebook_of};
@@ -41,7 +41,7 @@ fn weigh_phase(plan: &Plan, end: EndWords, book: &Notebook) -> Result<EndWords, 
 
 // Weighs a phase for the end in a host's words.
 fn weigh(sheet: &[u32], state: &mut [u32], notebook: &[u32]) -> Result<(), HostRefusal>
-    ensures answer { answered-by result ≡ answered-by (weigh_outcome sheet.now state.old notebook.now) }
+    ensures answer { answered_by result ≡ answered_by (weigh_outcome sheet.now state.old notebook.now) }
     ensures state { state.new ≡ left_by (weigh_outcome sheet.now state.old notebook.now) (λ w. kept_over w state.old) state.old }
 {
     if is_short(state, notebook) {
@@ -55,7 +55,7 @@ fn weigh(sheet: &[u32], state: &mut [u32], notebook: &[u32]) -> Result<(), HostR
 /// Has a single end weigh its phase by its notebook.
 #[unsafe(no_mangle)]
 pub extern "C" fn rolgevin_end_weigh(sheet: &[u32], state: &mut [u32], notebook: &[u32]) -> u32
-    ensures answer { result ≡ answered-by (weigh_outcome sheet.now state.old notebook.now) }
+    ensures answer { result ≡ answered_by (weigh_outcome sheet.now state.old notebook.now) }
     ensures state { state.new ≡ left_by (weigh_outcome sheet.now state.old notebook.now) (λ w. kept_over w state.old) state.old }
 {
     answered(weigh(sheet, state, notebook))

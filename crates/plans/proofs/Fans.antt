@@ -6,10 +6,10 @@ use Rattle.std.proofs.lemmas.Bool.{and_parts, and_from, and_left, and_right, eqb
 use Rattle.sites.specs.Positions.{first_from}
 use Rattle.sites.proofs.Positions.{first_hit, first_miss, first_is, first_end}
 use Rattle.words.specs.Layout.{kind_field}
-use Rattle.sheets.specs.Parts.{word_at, rogue-limit, later}
-use Rattle.sheets.specs.Rows.{first_fan, fan-starts, run_at}
+use Rattle.sheets.specs.Parts.{word_at, rogue_limit, later}
+use Rattle.sheets.specs.Rows.{first_fan, fan_starts, run_at}
 use Rattle.sheets.proofs.Passed.{next_starts}
-use Rattle.plans.specs.Complete.{serves_fan, fan_here, fan-place}
+use Rattle.plans.specs.Complete.{serves_fan, fan_here, fan_place}
 
 -- where a test fails at the d positions from i on, the search goes on behind them
 skip : (p : ℕ → Bool) (n i d : ℕ) → i + d ≤ n → ((k : ℕ) → i ≤ k → k < i + d → p k ≡ false) → first_from p i (n - i) ≡ first_from p (i + d) (n - (i + d))
@@ -53,59 +53,59 @@ module _ (ws : List ℕ) where
   within h = fan_after_head ws (first_from (λ i. eqb (kind_field (word_at ws i)) 11) 1 (later ws)) refl h
 
   -- no fan begins within a fan
-  no_start : (i k : ℕ) → fan-starts ws i ≡ true → i < k → k < i + (rogue-limit ws + 1) → fan-starts ws k ≡ false
+  no_start : (i k : ℕ) → fan_starts ws i ≡ true → i < k → k < i + (rogue_limit ws + 1) → fan_starts ws k ≡ false
   no_start i k s lo hi =
-      let p = and_parts (leb (first_fan ws) i) (eqb ((i - first_fan ws) % (rogue-limit ws + 1)) 0) s in
+      let p = and_parts (leb (first_fan ws) i) (eqb ((i - first_fan ws) % (rogue_limit ws + 1)) 0) s in
       let l = leb-true (first_fan ws) i p.0 in
-      let z : (i - first_fan ws) % (rogue-limit ws + 1) ≡ 0 = eqb-true ((i - first_fan ws) % (rogue-limit ws + 1)) 0 p.1 in
-      let q = div-add-mod' (i - first_fan ws) (rogue-limit ws + 1) in
-      let e : k - first_fan ws ≡ (i - first_fan ws) / (rogue-limit ws + 1) * (rogue-limit ws + 1) + (k - i) = omega arith in
-      let r : (k - first_fan ws) % (rogue-limit ws + 1) ≡ k - i = ap (λ (x : ℕ). x % (rogue-limit ws + 1)) e ∙ mod-mul-add ((i - first_fan ws) / (rogue-limit ws + 1)) (rogue-limit ws + 1) (k - i) (omega arith) in
-      and_right (leb (first_fan ws) k) (eqb ((k - first_fan ws) % (rogue-limit ws + 1)) 0) (ne_eqb ((k - first_fan ws) % (rogue-limit ws + 1)) 0 (λ d. omega arith))
+      let z : (i - first_fan ws) % (rogue_limit ws + 1) ≡ 0 = eqb-true ((i - first_fan ws) % (rogue_limit ws + 1)) 0 p.1 in
+      let q = div-add-mod' (i - first_fan ws) (rogue_limit ws + 1) in
+      let e : k - first_fan ws ≡ (i - first_fan ws) / (rogue_limit ws + 1) * (rogue_limit ws + 1) + (k - i) = omega arith in
+      let r : (k - first_fan ws) % (rogue_limit ws + 1) ≡ k - i = ap (λ (x : ℕ). x % (rogue_limit ws + 1)) e ∙ mod-mul-add ((i - first_fan ws) / (rogue_limit ws + 1)) (rogue_limit ws + 1) (k - i) (omega arith) in
+      and_right (leb (first_fan ws) k) (eqb ((k - first_fan ws) % (rogue_limit ws + 1)) 0) (ne_eqb ((k - first_fan ws) % (rogue_limit ws + 1)) 0 (λ d. omega arith))
 
   module _ (F v A : ℕ) where
-    pub from_first : 0 < length ws → first_from (fan_here ws F v A) (first_fan ws) (length ws - first_fan ws) ≡ fan-place ws F v A
+    pub from_first : 0 < length ws → first_from (fan_here ws F v A) (first_fan ws) (length ws - first_fan ws) ≡ fan_place ws F v A
     from_first h =
         let w = within h in
         let e : 1 + (first_fan ws - 1) ≡ first_fan ws = omega (arith, w.0) in
         sym (skip (fan_here ws F v A) (length ws) 1 (first_fan ws - 1) (omega (arith, w.0, w.1))
-        (λ k lo hi. and_left (fan-starts ws k) _ (and_left (leb (first_fan ws) k) _ (lt-leb (first_fan ws) k (omega (arith, w.0)))))
+        (λ k lo hi. and_left (fan_starts ws k) _ (and_left (leb (first_fan ws) k) _ (lt-leb (first_fan ws) k (omega (arith, w.0)))))
         ∙ ap (λ (x : ℕ). first_from (fan_here ws F v A) x (length ws - x)) e)
 
-    at_fan : (i : ℕ) → fan-starts ws i ≡ true → i + (rogue-limit ws + 1) ≤ length ws → serves_fan F v A (run_at ws i) ≡ true → first_from (fan_here ws F v A) i (length ws - i) ≡ Some i
+    at_fan : (i : ℕ) → fan_starts ws i ≡ true → i + (rogue_limit ws + 1) ≤ length ws → serves_fan F v A (run_at ws i) ≡ true → first_from (fan_here ws F v A) i (length ws - i) ≡ Some i
     at_fan i s l h =
         first_hit (fan_here ws F v A) i (length ws) (omega arith)
-        (and_from (fan-starts ws i) _ s (and_from (leb (i + (rogue-limit ws + 1)) (length ws)) _ (le-leb (i + (rogue-limit ws + 1)) (length ws) l) h))
+        (and_from (fan_starts ws i) _ s (and_from (leb (i + (rogue_limit ws + 1)) (length ws)) _ (le-leb (i + (rogue_limit ws + 1)) (length ws) l) h))
 
-    past_fan : (i : ℕ) → fan-starts ws i ≡ true → i + (rogue-limit ws + 1) ≤ length ws → serves_fan F v A (run_at ws i) ≡ false →
-        first_from (fan_here ws F v A) i (length ws - i) ≡ first_from (fan_here ws F v A) (i + (rogue-limit ws + 1)) (length ws - (i + (rogue-limit ws + 1)))
-    past_fan i s l h = skip (fan_here ws F v A) (length ws) i (rogue-limit ws + 1) l
+    past_fan : (i : ℕ) → fan_starts ws i ≡ true → i + (rogue_limit ws + 1) ≤ length ws → serves_fan F v A (run_at ws i) ≡ false →
+        first_from (fan_here ws F v A) i (length ws - i) ≡ first_from (fan_here ws F v A) (i + (rogue_limit ws + 1)) (length ws - (i + (rogue_limit ws + 1)))
+    past_fan i s l h = skip (fan_here ws F v A) (length ws) i (rogue_limit ws + 1) l
         (λ k lo hi. ⊎_elim
-        (λ e. subst (λ (x : ℕ). fan_here ws F v A x ≡ false) e (and_right (fan-starts ws i) _ (and_right (leb (i + (rogue-limit ws + 1)) (length ws)) _ h)))
-        (λ e. and_left (fan-starts ws k) _ (no_start i k s (omega arith) hi))
+        (λ e. subst (λ (x : ℕ). fan_here ws F v A x ≡ false) e (and_right (fan_starts ws i) _ (and_right (leb (i + (rogue_limit ws + 1)) (length ws)) _ h)))
+        (λ e. and_left (fan_starts ws k) _ (no_start i k s (omega arith) hi))
         (cases_eq i k))
 
-    no_fan_left : (i : ℕ) → length ws < i + (rogue-limit ws + 1) → first_from (fan_here ws F v A) i (length ws - i) ≡ None
+    no_fan_left : (i : ℕ) → length ws < i + (rogue_limit ws + 1) → first_from (fan_here ws F v A) i (length ws - i) ≡ None
     no_fan_left i l = none_from (fan_here ws F v A) i (length ws - i)
-        (λ k lo. and_right (fan-starts ws k) _ (and_left (leb (k + (rogue-limit ws + 1)) (length ws)) _ (lt-leb (k + (rogue-limit ws + 1)) (length ws) (omega arith))))
+        (λ k lo. and_right (fan_starts ws k) _ (and_left (leb (k + (rogue_limit ws + 1)) (length ws)) _ (lt-leb (k + (rogue_limit ws + 1)) (length ws) (omega arith))))
 
 -- the turns of the search, where m is how many words a fan has
-module _ (ws : List ℕ) (F v A m : ℕ) (size : m ≡ rogue-limit ws + 1) where
+module _ (ws : List ℕ) (F v A m : ℕ) (size : m ≡ rogue_limit ws + 1) where
   run_is : (i : ℕ) → take (i + m - i) (drop i ws) ≡ run_at ws i
-  run_is i = let e : i + m - i ≡ rogue-limit ws + 1 = omega arith in ap (λ (k : ℕ). take k (drop i ws)) e
+  run_is i = let e : i + m - i ≡ rogue_limit ws + 1 = omega arith in ap (λ (k : ℕ). take k (drop i ws)) e
 
-  pub fan_found : (i : ℕ) → fan-starts ws i ≡ true → first_from (fan_here ws F v A) i (length ws - i) ≡ fan-place ws F v A → i < length ws → m ≤ length ws - i →
-      serves_fan F v A (take (i + m - i) (drop i ws)) ≡ true → Some i ≡ fan-place ws F v A
+  pub fan_found : (i : ℕ) → fan_starts ws i ≡ true → first_from (fan_here ws F v A) i (length ws - i) ≡ fan_place ws F v A → i < length ws → m ≤ length ws - i →
+      serves_fan F v A (take (i + m - i) (drop i ws)) ≡ true → Some i ≡ fan_place ws F v A
   fan_found i s e l k h = sym (at_fan ws F v A i s (omega arith) (ap (serves_fan F v A) (sym (run_is i)) ∙ h)) ∙ e
 
-  pub fan_next : (i : ℕ) → fan-starts ws i ≡ true → first_from (fan_here ws F v A) i (length ws - i) ≡ fan-place ws F v A → i < length ws → m ≤ length ws - i →
-      serves_fan F v A (take (i + m - i) (drop i ws)) ≡ false → (fan-starts ws (i + m) ≡ true) × (first_from (fan_here ws F v A) (i + m) (length ws - (i + m)) ≡ fan-place ws F v A)
+  pub fan_next : (i : ℕ) → fan_starts ws i ≡ true → first_from (fan_here ws F v A) i (length ws - i) ≡ fan_place ws F v A → i < length ws → m ≤ length ws - i →
+      serves_fan F v A (take (i + m - i) (drop i ws)) ≡ false → (fan_starts ws (i + m) ≡ true) × (first_from (fan_here ws F v A) (i + m) (length ws - (i + m)) ≡ fan_place ws F v A)
   fan_next i s e l k h =
-      let there : i + (rogue-limit ws + 1) ≡ i + m = omega arith in (
-        subst (λ (x : ℕ). fan-starts ws x ≡ true) there (next_starts ws i s),
-        subst (λ (x : ℕ). first_from (fan_here ws F v A) x (length ws - x) ≡ fan-place ws F v A) there
+      let there : i + (rogue_limit ws + 1) ≡ i + m = omega arith in (
+        subst (λ (x : ℕ). fan_starts ws x ≡ true) there (next_starts ws i s),
+        subst (λ (x : ℕ). first_from (fan_here ws F v A) x (length ws - x) ≡ fan_place ws F v A) there
             (sym (past_fan ws F v A i s (omega arith) (ap (serves_fan F v A) (sym (run_is i)) ∙ h)) ∙ e),
       )
 
-  pub fan_nowhere : (i : ℕ) → first_from (fan_here ws F v A) i (length ws - i) ≡ fan-place ws F v A → length ws < i + m → None ≡ fan-place ws F v A
+  pub fan_nowhere : (i : ℕ) → first_from (fan_here ws F v A) i (length ws - i) ≡ fan_place ws F v A → length ws < i + m → None ≡ fan_place ws F v A
   fan_nowhere i e l = sym (no_fan_left ws F v A i (omega arith)) ∙ e

@@ -16,11 +16,11 @@ use Rattle.words.specs.Kinds.{kind_named, suits}
 use Rattle.words.specs.Layout.{kind_field, count_field, site_fields, spare_field, tail_field, path_field}
 use Rattle.words.specs.Paths.{fresh_at, site_ok, path?, zero_from}
 use Rattle.words.specs.Words.{meaning, meaning_as}
-use Rattle.sheets.specs.Parts.{site_at, source, end, avoids, apart, joins_fan, fan?, word_at, site-count, rogue-limit, later, joined}
-use Rattle.sheets.specs.Rows.{first_fan, fan-starts, run_at}
+use Rattle.sheets.specs.Parts.{site_at, source, end, avoids, apart, joins_fan, fan?, word_at, site_count, rogue_limit, later, joined}
+use Rattle.sheets.specs.Rows.{first_fan, fan_starts, run_at}
 use Rattle.theory.specs.Network.{Suspect, Way, Fan, Lawful}
-use Rattle.plans.specs.Complete.{judged, serves_route, serves_fan, route-place, fan_here, fan-place, keeping}
-use Rattle.plans.specs.Taken.{path_at as path-taken, words_at, suspect?, two-sites?, are-joined, route-taken, fan-taken, network_of}
+use Rattle.plans.specs.Complete.{judged, serves_route, serves_fan, route_place, fan_here, fan_place, keeping}
+use Rattle.plans.specs.Taken.{path_at as path_taken, words_at, suspect?, two_sites?, are_joined, route_taken, fan_taken, network_of}
 use Rattle.sheets.proofs.Passed.{some_words, sites_range, path_at, fan_at, fan_words}
 use Rattle.plans.proofs.Judged.{passes, route_there, fan_there}
 use Rattle.plans.proofs.Ways.{way_by_steps, share_only, apart_places, all_mapped}
@@ -105,29 +105,29 @@ module _ (ws : List ℕ) (ok : judged ws ≡ Ok tt) where
       w : ℕ
       w = word_at ws i
 
-      good : (is_some (meaning (word_at ws i)) ≡ true) × ((all_from (λ j. ltb (site_at (word_at ws i) j) (site-count ws)) 0 (length (path_field (word_at ws i))) && all_from (λ j. joined ws (site_at (word_at ws i) j) (site_at (word_at ws i) (j + 1))) 0 (length (path_field (word_at ws i)) - 1)) ≡ true)
+      good : (is_some (meaning (word_at ws i)) ≡ true) × ((all_from (λ j. ltb (site_at (word_at ws i) j) (site_count ws)) 0 (length (path_field (word_at ws i))) && all_from (λ j. joined ws (site_at (word_at ws i) j) (site_at (word_at ws i) (j + 1))) 0 (length (path_field (word_at ws i)) - 1)) ≡ true)
       good = and_parts (is_some (meaning (word_at ws i))) _ (path_at ws (passes ws ok) i lo hi high)
 
-      rest : (all_from (λ j. ltb (site_at (word_at ws i) j) (site-count ws)) 0 (length (path_field (word_at ws i))) ≡ true) × (all_from (λ j. joined ws (site_at (word_at ws i) j) (site_at (word_at ws i) (j + 1))) 0 (length (path_field (word_at ws i)) - 1) ≡ true)
-      rest = and_parts (all_from (λ j. ltb (site_at (word_at ws i) j) (site-count ws)) 0 (length (path_field (word_at ws i)))) _ good.1
+      rest : (all_from (λ j. ltb (site_at (word_at ws i) j) (site_count ws)) 0 (length (path_field (word_at ws i))) ≡ true) × (all_from (λ j. joined ws (site_at (word_at ws i) j) (site_at (word_at ws i) (j + 1))) 0 (length (path_field (word_at ws i)) - 1) ≡ true)
+      rest = and_parts (all_from (λ j. ltb (site_at (word_at ws i) j) (site_count ws)) 0 (length (path_field (word_at ws i)))) _ good.1
 
-      below : (j : ℕ) → j < length (path_field (word_at ws i)) → site_at (word_at ws i) j < site-count ws
-      below j l = ltb-true (site_at (word_at ws i) j) (site-count ws) (all_at (λ j. ltb (site_at (word_at ws i) j) (site-count ws)) 0 (length (path_field (word_at ws i))) rest.0 j (omega arith) (omega arith))
+      below : (j : ℕ) → j < length (path_field (word_at ws i)) → site_at (word_at ws i) j < site_count ws
+      below j l = ltb-true (site_at (word_at ws i) j) (site_count ws) (all_at (λ j. ltb (site_at (word_at ws i) j) (site_count ws)) 0 (length (path_field (word_at ws i))) rest.0 j (omega arith) (omega arith))
 
-      joins : (j : ℕ) → suc j < length (path_field (word_at ws i)) → are-joined ws (site_at (word_at ws i) j) (site_at (word_at ws i) (suc j)) ≡ true
+      joins : (j : ℕ) → suc j < length (path_field (word_at ws i)) → are_joined ws (site_at (word_at ws i) j) (site_at (word_at ws i) (suc j)) ≡ true
       joins j l =
           let a = all_at (λ j. joined ws (site_at (word_at ws i) j) (site_at (word_at ws i) (j + 1))) 0 (length (path_field (word_at ws i)) - 1) rest.1 j (omega arith) (omega arith) in
           let e : j + 1 ≡ suc j = omega arith in
           let b : joined ws (site_at (word_at ws i) j) (site_at (word_at ws i) (suc j)) ≡ true = subst (λ (x : ℕ). joined ws (site_at (word_at ws i) j) (site_at (word_at ws i) x) ≡ true) e a in
-          and_from (ltb (site_at (word_at ws i) j) (site-count ws)) _ (lt-ltb (site_at (word_at ws i) j) (site-count ws) (below j (omega arith)))
-          (and_from (ltb (site_at (word_at ws i) (suc j)) (site-count ws)) _ (lt-ltb (site_at (word_at ws i) (suc j)) (site-count ws) (below (suc j) l)) b)
+          and_from (ltb (site_at (word_at ws i) j) (site_count ws)) _ (lt-ltb (site_at (word_at ws i) j) (site_count ws) (below j (omega arith)))
+          (and_from (ltb (site_at (word_at ws i) (suc j)) (site_count ws)) _ (lt-ltb (site_at (word_at ws i) (suc j)) (site_count ws) (below (suc j) l)) b)
 
   -- ---- routes
 
   abbrev Routed : ℕ → ℕ → ℕ → Option ℕ → Type 0
-  Routed F u v o = Way (network_of ws) F u v (path-taken ws o)
+  Routed F u v o = Way (network_of ws) F u v (path_taken ws o)
 
-  route_way : (F u v : ℕ) (o : Option ℕ) → route-place ws F u v ≡ o → is_some o ≡ true → Routed F u v o
+  route_way : (F u v : ℕ) (o : Option ℕ) → route_place ws F u v ≡ o → is_some o ≡ true → Routed F u v o
   route_way F u v None e s = absurd (both_ways false refl s)
   route_way F u v (Some i) e s =
       let q = first_is (λ i. serves_route F u v (word_at ws i)) 1 (later ws) i e in
@@ -140,13 +140,13 @@ module _ (ws : List ℕ) (ok : judged ws ≡ Ok tt) where
       let way-u = subst (λ (x : ℕ). Way (network_of ws) F x (end (word_at ws i)) (path_field (word_at ws i))) (eqb-true (source (word_at ws i)) u b.0) way in
       subst (λ (x : ℕ). Way (network_of ws) F u x (path_field (word_at ws i))) (eqb-true (end (word_at ws i)) v c.0) way-u
 
-  route_lawful : (F u v : ℕ) → Suspect (network_of ws) F → u < site-count ws → v < site-count ws → (u ≡ v → ⊥) → Routed F u v (route-taken ws F u v)
-  route_lawful F u v s hu hv differ = subst (Routed F u v) (sym (cond-true _ (route-place ws F u v) None asked)) (route_way F u v (route-place ws F u v) refl (route_there ws ok F u v s.below s.few hu hv differ))
+  route_lawful : (F u v : ℕ) → Suspect (network_of ws) F → u < site_count ws → v < site_count ws → (u ≡ v → ⊥) → Routed F u v (route_taken ws F u v)
+  route_lawful F u v s hu hv differ = subst (Routed F u v) (sym (cond-true _ (route_place ws F u v) None asked)) (route_way F u v (route_place ws F u v) refl (route_there ws ok F u v s.below s.few hu hv differ))
     where
-      asked : (suspect? (site-count ws) (rogue-limit ws) F && two-sites? ws u v) ≡ true
-      asked = and_from (suspect? (site-count ws) (rogue-limit ws) F) (two-sites? ws u v)
-          (and_from (ltb F (2 ^ site-count ws)) _ (lt-ltb F (2 ^ site-count ws) s.below) (le-leb (ones F) (rogue-limit ws) s.few))
-          (and_from (ltb u (site-count ws)) _ (lt-ltb u (site-count ws) hu) (and_from (ltb v (site-count ws)) _ (lt-ltb v (site-count ws) hv) (not_from_false (eqb u v) (ne_eqb u v differ))))
+      asked : (suspect? (site_count ws) (rogue_limit ws) F && two_sites? ws u v) ≡ true
+      asked = and_from (suspect? (site_count ws) (rogue_limit ws) F) (two_sites? ws u v)
+          (and_from (ltb F (2 ^ site_count ws)) _ (lt-ltb F (2 ^ site_count ws) s.below) (le-leb (ones F) (rogue_limit ws) s.few))
+          (and_from (ltb u (site_count ws)) _ (lt-ltb u (site_count ws) hu) (and_from (ltb v (site_count ws)) _ (lt-ltb v (site_count ws) hv) (not_from_false (eqb u v) (ne_eqb u v differ))))
 
   -- ---- fans
 
@@ -157,23 +157,23 @@ module _ (ws : List ℕ) (ok : judged ws ≡ Ok tt) where
     abbrev run : List ℕ
     run = run_at ws i
 
-    starts : fan-starts ws i ≡ true
-    starts = (and_parts (fan-starts ws i) (leb (i + (rogue-limit ws + 1)) (length ws) && serves_fan F v A run) here).0
+    starts : fan_starts ws i ≡ true
+    starts = (and_parts (fan_starts ws i) (leb (i + (rogue_limit ws + 1)) (length ws) && serves_fan F v A run) here).0
 
-    fits : i + (rogue-limit ws + 1) ≤ length ws
-    fits = leb-true (i + (rogue-limit ws + 1)) (length ws) (and_parts (leb (i + (rogue-limit ws + 1)) (length ws)) (serves_fan F v A run) (and_parts (fan-starts ws i) (leb (i + (rogue-limit ws + 1)) (length ws) && serves_fan F v A run) here).1).0
+    fits : i + (rogue_limit ws + 1) ≤ length ws
+    fits = leb-true (i + (rogue_limit ws + 1)) (length ws) (and_parts (leb (i + (rogue_limit ws + 1)) (length ws)) (serves_fan F v A run) (and_parts (fan_starts ws i) (leb (i + (rogue_limit ws + 1)) (length ws) && serves_fan F v A run) here).1).0
 
     serves : serves_fan F v A run ≡ true
-    serves = (and_parts (leb (i + (rogue-limit ws + 1)) (length ws)) (serves_fan F v A run) (and_parts (fan-starts ws i) (leb (i + (rogue-limit ws + 1)) (length ws) && serves_fan F v A run) here).1).1
+    serves = (and_parts (leb (i + (rogue_limit ws + 1)) (length ws)) (serves_fan F v A run) (and_parts (fan_starts ws i) (leb (i + (rogue_limit ws + 1)) (length ws) && serves_fan F v A run) here).1).1
 
     whole : fan? run ≡ true
-    whole = (and_parts (leb (i + (rogue-limit ws + 1)) (length ws)) (fan? run) (fan_at ws (passes ws ok) i lo hi starts)).1
+    whole = (and_parts (leb (i + (rogue_limit ws + 1)) (length ws)) (fan? run) (fan_at ws (passes ws ok) i lo hi starts)).1
 
-    run_length : length run ≡ rogue-limit ws + 1
-    run_length = length-take-le (rogue-limit ws + 1) (drop i ws) (omega (arith, length-drop i ws, fits))
+    run_length : length run ≡ rogue_limit ws + 1
+    run_length = length-take-le (rogue_limit ws + 1) (drop i ws) (omega (arith, length-drop i ws, fits))
 
-    run_word : (k : ℕ) → k < rogue-limit ws + 1 → get_or run k 0 ≡ word_at ws (i + k)
-    run_word k l = get_or-take (rogue-limit ws + 1) (drop i ws) k 0 l ∙ get_or-drop i ws k 0
+    run_word : (k : ℕ) → k < rogue_limit ws + 1 → get_or run k 0 ≡ word_at ws (i + k)
+    run_word k l = get_or-take (rogue_limit ws + 1) (drop i ws) k 0 l ∙ get_or-drop i ws k 0
 
     first_ends : end (get_or run 0 0) ≡ v
     first_ends = eqb-true (end (get_or run 0 0)) v (and_parts (eqb (end (get_or run 0 0)) v) _ serves).0
@@ -192,7 +192,7 @@ module _ (ws : List ℕ) (ok : judged ws ≡ Ok tt) where
     fan_kind : (k : ℕ) → k < length run → kind_field (word_at ws (i + k)) ≡ 11
     fan_kind k l =
         fan_words ws (passes ws ok) (i + k)
-        (omega (arith, leb-true (first_fan ws) i (and_parts (leb (first_fan ws) i) (eqb ((i - first_fan ws) % (rogue-limit ws + 1)) 0) starts).0))
+        (omega (arith, leb-true (first_fan ws) i (and_parts (leb (first_fan ws) i) (eqb ((i - first_fan ws) % (rogue_limit ws + 1)) 0) starts).0))
         (omega (arith, run_length, fits))
 
     path_way : (k : ℕ) → k < length run → Way (network_of ws) F (source (get_or run k 0)) v (path_field (get_or run k 0))
@@ -221,23 +221,23 @@ module _ (ws : List ℕ) (ok : judged ws ≡ Ok tt) where
       apart = apart_places path_field v run apart_at;
     }
 
-  fan_fan : (F v A : ℕ) (o : Option ℕ) → fan-place ws F v A ≡ o → is_some o ≡ true → Fanned F v A o
+  fan_fan : (F v A : ℕ) (o : Option ℕ) → fan_place ws F v A ≡ o → is_some o ≡ true → Fanned F v A o
   fan_fan F v A None e s = absurd (both_ways false refl s)
   fan_fan F v A (Some i) e s =
       let q = first_is (fan_here ws F v A) 1 (later ws) i e in
       fan_here_lawful F v A i (omega (arith, q.1)) (omega (arith, q.2, some_words ws (passes ws ok))) q.0
 
-  fan_lawful : (F v A : ℕ) → Suspect (network_of ws) F → v < site-count ws → A < 2 ^ site-count ws → is_some (fan-place ws F v A) ≡ true → Fanned F v A (fan-taken ws F v A)
-  fan_lawful F v A s hv ha there = subst (Fanned F v A) (sym (cond-true _ (fan-place ws F v A) None asked)) (fan_fan F v A (fan-place ws F v A) refl there)
+  fan_lawful : (F v A : ℕ) → Suspect (network_of ws) F → v < site_count ws → A < 2 ^ site_count ws → is_some (fan_place ws F v A) ≡ true → Fanned F v A (fan_taken ws F v A)
+  fan_lawful F v A s hv ha there = subst (Fanned F v A) (sym (cond-true _ (fan_place ws F v A) None asked)) (fan_fan F v A (fan_place ws F v A) refl there)
     where
-      asked : (suspect? (site-count ws) (rogue-limit ws) F && (ltb v (site-count ws) && ltb A (2 ^ site-count ws))) ≡ true
-      asked = and_from (suspect? (site-count ws) (rogue-limit ws) F) _
-          (and_from (ltb F (2 ^ site-count ws)) _ (lt-ltb F (2 ^ site-count ws) s.below) (le-leb (ones F) (rogue-limit ws) s.few))
-          (and_from (ltb v (site-count ws)) _ (lt-ltb v (site-count ws) hv) (lt-ltb A (2 ^ site-count ws) ha))
+      asked : (suspect? (site_count ws) (rogue_limit ws) F && (ltb v (site_count ws) && ltb A (2 ^ site_count ws))) ≡ true
+      asked = and_from (suspect? (site_count ws) (rogue_limit ws) F) _
+          (and_from (ltb F (2 ^ site_count ws)) _ (lt-ltb F (2 ^ site_count ws) s.below) (le-leb (ones F) (rogue_limit ws) s.few))
+          (and_from (ltb v (site_count ws)) _ (lt-ltb v (site_count ws) hv) (lt-ltb A (2 ^ site_count ws) ha))
 
   pub network_lawful : Lawful (network_of ws)
   network_lawful = record {
     least = (sites_range ws (passes ws ok)).0;
     routes = route_lawful;
-    fans = λ F v Z s hv hz out. fan_lawful F v (keeping ws F Z) s hv (keepers_below (site-count ws) (rogue-limit ws) F Z hz) (fan_there ws ok F v Z s.below s.few hv hz out);
+    fans = λ F v Z s hv hz out. fan_lawful F v (keeping ws F Z) s hv (keepers_below (site_count ws) (rogue_limit ws) F Z hz) (fan_there ws ok F v Z s.below s.few hv hz out);
   }

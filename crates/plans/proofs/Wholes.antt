@@ -1,7 +1,7 @@
 -- What holds of every plan, since its sheet is complete.
 use Rattle.std.proofs.Common.{◌≡◌, ℕ, ◌<◌, ◌≤◌, false, length, Ok, sym, subst}
 use Rattle.sites.specs.Sets.{in_set}
-use Rattle.sheets.specs.Parts.{site-count, rogue-limit}
+use Rattle.sheets.specs.Parts.{site_count, rogue_limit}
 use Rattle.sheets.specs.Refusals.{well_formed}
 use Rattle.sheets.proofs.Passed.{some_words, sheet_fits, sites_range, rogues_range}
 use Rattle.theory.specs.Network.{Fan, Lawful}
@@ -24,10 +24,10 @@ module _ (p : Plan) where
   pub plan_fits : length (sheet p) ≤ 1024
   plan_fits = sheet_fits (sheet p) plan_passes
 
-  pub plan_sites : (2 ≤ site-count (sheet p)) × (site-count (sheet p) ≤ 6)
+  pub plan_sites : (2 ≤ site_count (sheet p)) × (site_count (sheet p) ≤ 6)
   plan_sites = sites_range (sheet p) plan_passes
 
-  pub plan_rogues : rogue-limit (sheet p) ≤ 2
+  pub plan_rogues : rogue_limit (sheet p) ≤ 2
   plan_rogues = rogues_range (sheet p) plan_passes
 
   pub plan_lawful : Lawful (network p)

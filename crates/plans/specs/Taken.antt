@@ -2,10 +2,10 @@
 use Rattle.std.specs.Prelude.{ℕ, ◌^◌, Bool, cond, not, ◌&&◌, List, [], map, length, Some, None, Option, ◌==◌, count_ones, nat_le, nat_lt, slice_index}
 use Rattle.sites.specs.Suspects.{suspects}
 use Rattle.words.specs.Layout.{path_field}
-use Rattle.sheets.specs.Parts.{word_at, site-count, rogue-limit, joined}
+use Rattle.sheets.specs.Parts.{word_at, site_count, rogue_limit, joined}
 use Rattle.sheets.specs.Rows.{run_at}
 use Rattle.theory.specs.Network.{Network}
-use Rattle.plans.specs.Complete.{serves_route, route-place, fan-place}
+use Rattle.plans.specs.Complete.{serves_route, route_place, fan_place}
 
 -- the path of the word at a place, if there is a place
 abbrev pub path_at : List ℕ → Option ℕ → List ℕ
@@ -31,36 +31,36 @@ set_at n f k = cond (nat_lt k (length (suspects n f))) (Some (slice_index (suspe
 
 module _ (ws : List ℕ) where
   -- two different sites below n
-  abbrev pub two-sites? : ℕ → ℕ → Bool
-  two-sites? u v = nat_lt u (site-count ws) && (nat_lt v (site-count ws) && not (u == v))
+  abbrev pub two_sites? : ℕ → ℕ → Bool
+  two_sites? u v = nat_lt u (site_count ws) && (nat_lt v (site_count ws) && not (u == v))
 
   -- an edge joins two sites below n
-  abbrev pub are-joined : ℕ → ℕ → Bool
-  are-joined a b = nat_lt a (site-count ws) && (nat_lt b (site-count ws) && joined ws a b)
+  abbrev pub are_joined : ℕ → ℕ → Bool
+  are_joined a b = nat_lt a (site_count ws) && (nat_lt b (site_count ws) && joined ws a b)
 
   -- the place of the route taken from u to v where F is suspected: the first that avoids F;
   -- none where F is no suspect set or u and v are not two different sites
-  abbrev pub route-taken : ℕ → ℕ → ℕ → Option ℕ
-  route-taken F u v = cond (suspect? (site-count ws) (rogue-limit ws) F && two-sites? u v) (route-place ws F u v) None
+  abbrev pub route_taken : ℕ → ℕ → ℕ → Option ℕ
+  route_taken F u v = cond (suspect? (site_count ws) (rogue_limit ws) F && two_sites? u v) (route_place ws F u v) None
 
   -- the place of the fan taken at v among A where F is suspected: the first that begins in A and avoids F;
   -- none where there is none, F is no suspect set, v is no site or A is no set of sites
-  abbrev pub fan-taken : ℕ → ℕ → ℕ → Option ℕ
-  fan-taken F v A = cond (suspect? (site-count ws) (rogue-limit ws) F && (nat_lt v (site-count ws) && nat_lt A (2 ^ site-count ws))) (fan-place ws F v A) None
+  abbrev pub fan_taken : ℕ → ℕ → ℕ → Option ℕ
+  fan_taken F v A = cond (suspect? (site_count ws) (rogue_limit ws) F && (nat_lt v (site_count ws) && nat_lt A (2 ^ site_count ws))) (fan_place ws F v A) None
 
   -- the path of the route taken, and the words of the fan taken; empty where there is none
-  abbrev pub route-path : ℕ → ℕ → ℕ → List ℕ
-  route-path F u v = path_at ws (route-taken F u v)
+  abbrev pub route_path : ℕ → ℕ → ℕ → List ℕ
+  route_path F u v = path_at ws (route_taken F u v)
 
   abbrev pub fan_words : ℕ → ℕ → ℕ → List ℕ
-  fan_words F v A = words_at ws (fan-taken F v A)
+  fan_words F v A = words_at ws (fan_taken F v A)
 
   -- the sheet as a network
   abbrev pub network_of : Network
   network_of = record {
-    n = site-count ws;
-    f = rogue-limit ws;
-    joined = are-joined;
-    route = route-path;
+    n = site_count ws;
+    f = rogue_limit ws;
+    joined = are_joined;
+    route = route_path;
     fan = λ F v A. map path_field (fan_words F v A);
   }

@@ -1,10 +1,10 @@
 ghost use Rattle.std.specs.Prelude.{◌≡◌, ◌^◌, ◌<◌, ◌||◌, length, is_some, ◌==◌};
 ghost use Rattle.sites.specs.Positions.{all_from};
 ghost use Rattle.sites.specs.Sets.{in_set};
-ghost use Rattle.sheets.specs.Parts.{site-count, rogue-limit};
-ghost use Rattle.sheets.specs.Rows.{first_fan as fans-from};
+ghost use Rattle.sheets.specs.Parts.{site_count, rogue_limit};
+ghost use Rattle.sheets.specs.Rows.{first_fan as fans_from};
 ghost use Rattle.sheets.specs.Refusals.{told};
-ghost use Rattle.plans.specs.Complete.{route-place, fan-place, keeping, routed, fanned, route-fault, missing-fan, judged};
+ghost use Rattle.plans.specs.Complete.{route_place, fan_place, keeping, routed, fanned, route_fault, missing_fan, judged};
 ghost use Rattle.plans.specs.Examples.{SheetExamples};
 
 use crate::places::{first_route, first_serving};
@@ -26,7 +26,7 @@ fn refused_for(refusal: Refusal, bits: u32) -> SheetRefusal
 
 // Whether there is a route that avoids a set from one site to each other one below n.
 fn reaches_all(words: &[u32], set: SiteMask, from: u8, n: u8) -> bool
-    ensures { result ≡ all_from (λ v. (from == v) || is_some (route-place words.now set.bits from v)) 0 n }
+    ensures { result ≡ all_from (λ v. (from == v) || is_some (route_place words.now set.bits from v)) 0 n }
 {
     for to in 0..n {
         if from != to && first_route(words, set, from, to).is_none() {
@@ -51,8 +51,8 @@ fn is_routed(words: &[u32], set: SiteMask) -> bool
 
 // Row 7: each suspect set has its routes.
 fn routes(words: &[u32]) -> Result<(), SheetRefusal>
-    requires { (site-count words.now < 7) × (rogue-limit words.now < 3) }
-    ensures { result ≡ told Refusal.NoRoute (route-fault words.now) }
+    requires { (site_count words.now < 7) × (rogue_limit words.now < 3) }
+    ensures { result ≡ told Refusal.NoRoute (route_fault words.now) }
 {
     let n = site_count(words) as usize;
     let f = rogue_limit(words) as usize;
@@ -75,8 +75,8 @@ fn all_sets(n: u8) -> u32
 
 // Whether a site has a fan that avoids a set for each Z that puts it into B.
 fn is_fed(words: &[u32], start: usize, set: SiteMask, at: u8) -> bool
-    requires { (site-count words.now < 7) × ((start ≡ fans-from words.now) × (0 < length words.now)) }
-    ensures { result ≡ all_from (λ Z. in_set (keeping words.now set.bits Z) at || is_some (fan-place words.now set.bits at (keeping words.now set.bits Z))) 0 (2 ^ site-count words.now) }
+    requires { (site_count words.now < 7) × ((start ≡ fans_from words.now) × (0 < length words.now)) }
+    ensures { result ≡ all_from (λ Z. in_set (keeping words.now set.bits Z) at || is_some (fan_place words.now set.bits at (keeping words.now set.bits Z))) 0 (2 ^ site_count words.now) }
 {
     let n = site_count(words);
     let f = rogue_limit(words);
@@ -91,7 +91,7 @@ fn is_fed(words: &[u32], start: usize, set: SiteMask, at: u8) -> bool
 
 // Whether a suspect set has its fans.
 fn is_fanned(words: &[u32], start: usize, set: SiteMask) -> bool
-    requires { (site-count words.now < 7) × ((start ≡ fans-from words.now) × (0 < length words.now)) }
+    requires { (site_count words.now < 7) × ((start ≡ fans_from words.now) × (0 < length words.now)) }
     ensures { result ≡ fanned words.now set.bits }
 {
     let n = site_count(words);
@@ -105,8 +105,8 @@ fn is_fanned(words: &[u32], start: usize, set: SiteMask) -> bool
 
 // Row 8: each suspect set has its fans.
 fn fans(words: &[u32]) -> Result<(), SheetRefusal>
-    requires { (site-count words.now < 7) × ((rogue-limit words.now < 3) × (0 < length words.now)) }
-    ensures { result ≡ told Refusal.NoFan (missing-fan words.now) }
+    requires { (site_count words.now < 7) × ((rogue_limit words.now < 3) × (0 < length words.now)) }
+    ensures { result ≡ told Refusal.NoFan (missing_fan words.now) }
 {
     let n = site_count(words) as usize;
     let f = rogue_limit(words) as usize;

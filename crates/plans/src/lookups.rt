@@ -2,11 +2,11 @@ ghost use Rattle.std.specs.Prelude.{◌≡◌, ◌<◌, ◌≤◌, true, [], len
 ghost use Rattle.std.specs.Option.{option_map};
 ghost use Rattle.words.specs.Layout.{path_field};
 ghost use Rattle.words.specs.Words.{meaning, sites_of};
-ghost use Rattle.sheets.specs.Parts.{site-count, rogue-limit};
+ghost use Rattle.sheets.specs.Parts.{site_count, rogue_limit};
 ghost use Rattle.plans.specs.Complete.{sets, keeping};
 ghost use Rattle.plans.specs.Examples.{pair};
 ghost use Rattle.plans.specs.Plans.{sheet};
-ghost use Rattle.plans.specs.Taken.{are-joined, suspect?, route-taken, route-path, fan-taken, fan_words, set_at};
+ghost use Rattle.plans.specs.Taken.{are_joined, suspect?, route_taken, route_path, fan_taken, fan_words, set_at};
 
 use crate::places::{first_route, first_serving};
 use crate::plan::Plan;
@@ -57,21 +57,21 @@ impl Plan {
 
     // How many sites the head tells.
     pub(crate) fn told_sites(&self) -> u8
-        ensures { result ≡ site-count (sheet self.now) }
+        ensures { result ≡ site_count (sheet self.now) }
     {
         parts::site_count(self.held())
     }
 
     // How many rogues the head allows.
     pub(crate) fn told_rogues(&self) -> u8
-        ensures { result ≡ rogue-limit (sheet self.now) }
+        ensures { result ≡ rogue_limit (sheet self.now) }
     {
         parts::rogue_limit(self.held())
     }
 
     // Whether an edge joins two sites below n.
     pub(crate) fn has_edge(&self, a: u8, b: u8) -> bool
-        ensures { result ≡ are-joined (sheet self.now) a b }
+        ensures { result ≡ are_joined (sheet self.now) a b }
     {
         let n = self.told_sites();
         a < n && b < n && parts::are_joined(self.held(), a, b)
@@ -79,7 +79,7 @@ impl Plan {
 
     // How many suspect sets there are.
     pub(crate) fn count_of_sets(&self) -> usize
-        requires { (site-count (sheet self.now) ≤ 6) × (rogue-limit (sheet self.now) ≤ 2) }
+        requires { (site_count (sheet self.now) ≤ 6) × (rogue_limit (sheet self.now) ≤ 2) }
         ensures { result ≡ length (sets (sheet self.now)) }
     {
         set_count(self.told_sites() as usize, self.told_rogues() as usize)
@@ -87,8 +87,8 @@ impl Plan {
 
     // The k-th of them.
     pub(crate) fn set_at(&self, k: usize) -> Option<SiteMask>
-        requires { (site-count (sheet self.now) ≤ 6) × (rogue-limit (sheet self.now) ≤ 2) }
-        ensures { option_map (λ m. m.bits) result ≡ set_at (site-count (sheet self.now)) (rogue-limit (sheet self.now)) k }
+        requires { (site_count (sheet self.now) ≤ 6) × (rogue_limit (sheet self.now) ≤ 2) }
+        ensures { option_map (λ m. m.bits) result ≡ set_at (site_count (sheet self.now)) (rogue_limit (sheet self.now)) k }
     {
         if k >= self.count_of_sets() {
             return None;
@@ -99,14 +99,14 @@ impl Plan {
 
     // Whether a set is a suspect set.
     pub(crate) fn has_suspect(&self, set: SiteMask) -> bool
-        ensures { result ≡ suspect? (site-count (sheet self.now)) (rogue-limit (sheet self.now)) set.bits }
+        ensures { result ≡ suspect? (site_count (sheet self.now)) (rogue_limit (sheet self.now)) set.bits }
     {
         set.is_below(self.told_sites()) && set.count() <= self.told_rogues() as u32
     }
 
     // The sites that keep their bits.
     pub(crate) fn sites_keeping(&self, set: SiteMask, zeros: SiteMask) -> SiteMask
-        requires { site-count (sheet self.now) ≤ 6 }
+        requires { site_count (sheet self.now) ≤ 6 }
         ensures { result.bits ≡ keeping (sheet self.now) set.bits zeros.bits }
     {
         keepers(self.told_sites(), self.told_rogues(), set, zeros)
@@ -114,7 +114,7 @@ impl Plan {
 
     // The place of the route taken.
     pub(crate) fn place_of_route(&self, set: SiteMask, from: u8, to: u8) -> Option<usize>
-        ensures { result ≡ route-taken (sheet self.now) set.bits from to }
+        ensures { result ≡ route_taken (sheet self.now) set.bits from to }
     {
         let n = self.told_sites();
         if !self.has_suspect(set) || from >= n || to >= n || from == to {
@@ -126,7 +126,7 @@ impl Plan {
     // The place of the fan taken.
     pub(crate) fn place_of_fan(&self, set: SiteMask, at: u8, among: SiteMask) -> Option<usize>
         requires { 0 < length (sheet self.now) }
-        ensures { result ≡ fan-taken (sheet self.now) set.bits at among.bits }
+        ensures { result ≡ fan_taken (sheet self.now) set.bits at among.bits }
     {
         let n = self.told_sites();
         if !self.has_suspect(set) || at >= n || !among.is_below(n) {
@@ -138,7 +138,7 @@ impl Plan {
 
     // The path of the route taken.
     pub(crate) fn path_of_route(&self, set: SiteMask, from: u8, to: u8) -> Path
-        ensures { sites_of result ≡ route-path (sheet self.now) set.bits from to }
+        ensures { sites_of result ≡ route_path (sheet self.now) set.bits from to }
     {
         let words = self.held();
         match self.place_of_route(set, from, to) {

@@ -1,9 +1,9 @@
 ghost use Rattle.std.specs.Prelude.{◌≡◌, ℕ, ◌+◌, ◌^◌, ◌<◌, ◌≤◌, true, false, ◌&&◌, length, slice_index};
 ghost use Rattle.sites.specs.Sets.{in_set};
-ghost use Rattle.sheets.specs.Parts.{source, avoids as does-avoid};
+ghost use Rattle.sheets.specs.Parts.{source, avoids as does_avoid};
 ghost use Rattle.sheets.specs.Rows.{first_fan};
 ghost use Rattle.plans.specs.Taken.{route_here};
-ghost use Rattle.plans.specs.Complete.{serves_route, serves_fan, route-place, fan-place};
+ghost use Rattle.plans.specs.Complete.{serves_route, serves_fan, route_place, fan_place};
 
 use sheets::parts::{avoids, end_of, rogue_limit, source_of};
 use sites::SiteMask;
@@ -40,7 +40,7 @@ fn seek_route(words: &[u32], set: SiteMask, from: u8, to: u8) -> usize
 
 // The place of the first route between two sites that avoids a set.
 pub(crate) fn first_route(words: &[u32], set: SiteMask, from: u8, to: u8) -> Option<usize>
-    ensures { result ≡ route-place words.now set.bits from to }
+    ensures { result ≡ route_place words.now set.bits from to }
 {
     if words.len() == 0 {
         return None;
@@ -55,7 +55,7 @@ pub(crate) fn first_route(words: &[u32], set: SiteMask, from: u8, to: u8) -> Opt
 
 // Whether a path begins in a set and avoids another set.
 fn begins_among(word: u32, set: SiteMask, among: SiteMask) -> bool
-    ensures { result ≡ (in_set among.bits (source word) && does-avoid set.bits word) }
+    ensures { result ≡ (in_set among.bits (source word) && does_avoid set.bits word) }
 {
     among.contains(source_of(word)) && avoids(set, word)
 }
@@ -94,7 +94,7 @@ pub(crate) fn first_serving(
     among: SiteMask,
 ) -> Option<usize>
     requires { (start ≡ first_fan words.now) × (0 < length words.now) }
-    ensures { result ≡ fan-place words.now set.bits at among.bits }
+    ensures { result ≡ fan_place words.now set.bits at among.bits }
 {
     let size = rogue_limit(words) as usize + 1;
     let mut i = start;

@@ -7,7 +7,7 @@ ghost use Rattle.words.specs.Words.{sites_of};
 ghost use Rattle.theory.specs.Network.{Lawful};
 ghost use Rattle.plans.specs.Examples.{pair};
 ghost use Rattle.plans.specs.Plans.{sheet, network, Loads, Reloads, Routes, FansAt};
-ghost use Rattle.plans.specs.Taken.{suspect?, route-taken, fan-taken, fan_words, set_at};
+ghost use Rattle.plans.specs.Taken.{suspect?, route_taken, fan_taken, fan_words, set_at};
 
 use crate::check::judge;
 use crate::lookups::pair_words;
@@ -123,7 +123,7 @@ impl Plan {
     /// The place of the route taken between two sites where a set is suspected; none where the set is no
     /// suspect set or these are not two different sites below n.
     pub fn find_route(&self, set: SiteMask, from: u8, to: u8) -> Option<usize>
-        ensures { result ≡ route-taken (sheet self.now) set.bits from to }
+        ensures { result ≡ route_taken (sheet self.now) set.bits from to }
     {
         self.place_of_route(set, from, to)
     }
@@ -131,7 +131,7 @@ impl Plan {
     /// The place of the fan taken at a site where a set is suspected, with its sources among some sites;
     /// none where no fan serves, the set is no suspect set, or a site is not below n.
     pub fn find_fan(&self, set: SiteMask, at: u8, among: SiteMask) -> Option<usize>
-        ensures { result ≡ fan-taken (sheet self.now) set.bits at among.bits }
+        ensures { result ≡ fan_taken (sheet self.now) set.bits at among.bits }
     {
         self.place_of_fan(set, at, among)
     }

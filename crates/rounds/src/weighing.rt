@@ -1,10 +1,10 @@
 ghost use Rattle.std.specs.Prelude.{◌≡◌, true, map, is_some, if◌then◌else◌, Decides, nat_eq};
 ghost use Rattle.std.specs.List.{AllByRecursion as All};
 ghost use Rattle.sites.specs.Lists.{front};
-ghost use Rattle.sites.specs.Keepers.{keepers as keepers-by};
+ghost use Rattle.sites.specs.Keepers.{keepers as keepers_by};
 ghost use Rattle.words.specs.Layout.{path_field};
 ghost use Rattle.words.specs.Words.{meaning};
-ghost use Rattle.theory.specs.Weighing.{zeros as zeros_of, agreed as agreed-of, weigh as weigh-of};
+ghost use Rattle.theory.specs.Weighing.{zeros as zeros_of, agreed as agreed_of, weigh as weigh_of};
 ghost use Rattle.notebooks.specs.Notebooks.{told_by};
 ghost use Rattle.tables.specs.Tables.{table_network};
 
@@ -16,7 +16,7 @@ use words::PathWord;
 /// The set A of the sites that keep their bits when a phase is weighed, where a set is suspected and the sites of Z
 /// have bit 0.
 pub fn keepers<P: Routing>(plan: &P, set: SiteMask, zeros: SiteMask) -> SiteMask
-    ensures { result.bits ≡ keepers-by (network plan.now).n (network plan.now).f set.bits zeros.bits }
+    ensures { result.bits ≡ keepers_by (network plan.now).n (network plan.now).f set.bits zeros.bits }
 {
     sites::keepers(plan.site_count(), plan.rogue_limit(), set, zeros)
 }
@@ -81,7 +81,7 @@ impl Notebook {
     // The common bit of the paths of a fan, or else the one held.
     fn agreed(&self, table: &PathTable, fan: &[u32], own: bool) -> bool
         requires { All (λ w. is_some (meaning w) ≡ true) fan.now }
-        ensures { result ≡ agreed-of own (map (λ w. told_by (table_network table.now) table.now.site self.now.words (front (path_field w))) fan.now) }
+        ensures { result ≡ agreed_of own (map (λ w. told_by (table_network table.now) table.now.site self.now.words (front (path_field w))) fan.now) }
     {
         if fan.len() == 0 {
             return own;
@@ -97,7 +97,7 @@ impl Notebook {
 
     /// The bit that the table's site holds from the end of a phase on, where it held `own` and a set was suspected.
     pub fn weigh<P: Routing>(&self, plan: &P, table: &PathTable, set: SiteMask, own: bool) -> bool
-        ensures { result ≡ weigh-of (network plan.now) (told_by (table_network table.now) table.now.site self.now.words) set.bits own table.now.site }
+        ensures { result ≡ weigh_of (network plan.now) (told_by (table_network table.now) table.now.site self.now.words) set.bits own table.now.site }
     {
         let site = table.site();
         let among = keepers(plan, set, self.zeros(plan, table, set, own));

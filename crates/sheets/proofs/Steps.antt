@@ -10,8 +10,8 @@ use Rattle.words.specs.Layout.{kind_field, path_field}
 use Rattle.words.specs.Kinds.{kind_named}
 use Rattle.words.specs.Words.{Meaning, meaning, meaning_as, fields_as}
 use Rattle.sheets.specs.declared.refusal.SheetRefusal.{SheetRefusal}
-use Rattle.sheets.specs.Parts.{word_at, path-word?}
-use Rattle.sheets.specs.Rows.{bad-path}
+use Rattle.sheets.specs.Parts.{word_at, path_word?}
+use Rattle.sheets.specs.Rows.{bad_path}
 use Rattle.sheets.specs.Refusals.{told}
 use Rattle.sheets.specs.Steps.{wired, path_told}
 
@@ -42,16 +42,16 @@ sites_as w (Some k) m e = go _ e
 pub sites_named : (w : ℕ) (m : Meaning) → meaning w ≡ Some m → m.sites ≡ path_field w
 sites_named w m e = sites_as w (kind_named (kind_field w)) m e
 
-pub path_tested : (ws : List ℕ) (w : ℕ) (m : Meaning) → meaning w ≡ Some m → path-word? ws w ≡ wired ws m.sites
+pub path_tested : (ws : List ℕ) (w : ℕ) (m : Meaning) → meaning w ≡ Some m → path_word? ws w ≡ wired ws m.sites
 path_tested ws w m e =
     ap (λ (b : Bool). b && wired ws (path_field w)) (ap is_some e) ∙ ap (wired ws) (sym (sites_named w m e))
 
 module _ (ws : List ℕ) (i : ℕ) where
-  told_bad : (b : Bool) → bad-path ws i ≡ b → path_told ws i ≡ told Path (cond b (Some i) None)
+  told_bad : (b : Bool) → bad_path ws i ≡ b → path_told ws i ≡ told Path (cond b (Some i) None)
   told_bad b e = ap (λ (x : Bool). told Path (cond x (Some i) None)) e
 
-  pub path_passes : path-word? ws (word_at ws i) ≡ true → Ok tt ≡ path_told ws i
+  pub path_passes : path_word? ws (word_at ws i) ≡ true → Ok tt ≡ path_told ws i
   path_passes e = sym (told_bad false (and_right (leb 10 (kind_field (word_at ws i))) _ (not_from_true _ e)))
 
-  pub path_fails : 10 ≤ kind_field (word_at ws i) → path-word? ws (word_at ws i) ≡ false → Err (record { refusal = Path; place = i }) ≡ path_told ws i
+  pub path_fails : 10 ≤ kind_field (word_at ws i) → path_word? ws (word_at ws i) ≡ false → Err (record { refusal = Path; place = i }) ≡ path_told ws i
   path_fails h e = sym (told_bad true (and_from _ _ (le-leb 10 (kind_field (word_at ws i)) h) (not_from_false _ e)))

@@ -7,7 +7,7 @@ use Rattle.sheets.specs.declared.refusal.SheetRefusal.{SheetRefusal}
 use Rattle.sheets.specs.declared.reader.Item.{Item}
 use Rattle.sheets.specs.declared.reader.Item.TheVariants.{Head, Edge, Route, Fan}
 use Rattle.sheets.specs.declared.reader.Reader.{Reader}
-use Rattle.sheets.specs.Parts.{word_at, site-count, rogue-limit, edge_word, path-word?, fan?}
+use Rattle.sheets.specs.Parts.{word_at, site_count, rogue_limit, edge_word, path_word?, fan?}
 use Rattle.sheets.specs.Rows.{run_at}
 use Rattle.sheets.specs.Refusals.{well_formed}
 
@@ -42,39 +42,39 @@ module _ (ws : List ℕ) where
       (route i (word_at ws i))))
 
   -- what a reader gives at a place: past the end nothing
-  abbrev pub item-at : ℕ → Option Part
-  item-at i = cond (nat_lt i (length ws)) (Some (part_at i)) None
+  abbrev pub item_at : ℕ → Option Part
+  item_at i = cond (nat_lt i (length ws)) (Some (part_at i)) None
 
   -- where it then stands: behind the item, and past the end where it stood
   abbrev pub place_after : ℕ → ℕ
-  place_after i = elim (item-at i) [ Some part ↦ i + length (words_of part) | None ↦ i ]
+  place_after i = elim (item_at i) [ Some part ↦ i + length (words_of part) | None ↦ i ]
 
   -- reading from a place on gives these items one by one, and then nothing
   abbrev pub Gives : ℕ → List Part → Type 0
-  Gives i [] = item-at i ≡ None
-  Gives i (part ∷ parts) = (item-at i ≡ Some part) × Gives (place_after i) parts
+  Gives i [] = item_at i ≡ None
+  Gives i (part ∷ parts) = (item_at i ≡ Some part) × Gives (place_after i) parts
 
   -- an item after the head, as the rules want it
   abbrev pub Lawful : Part → Type 0
   Lawful (head place n f) = ⊥
-  Lawful (edge place a b) = (a < b) × (b < site-count ws)
-  Lawful (route place word) = (kind_field word ≡ 10) × (path-word? ws word ≡ true)
-  Lawful (fan place run) = (length run ≡ rogue-limit ws + 1) × (fan? run ≡ true) × All (λ word. (kind_field word ≡ 11) × (path-word? ws word ≡ true)) run
+  Lawful (edge place a b) = (a < b) × (b < site_count ws)
+  Lawful (route place word) = (kind_field word ≡ 10) × (path_word? ws word ≡ true)
+  Lawful (fan place run) = (length run ≡ rogue_limit ws + 1) × (fan? run ≡ true) × All (λ word. (kind_field word ≡ 11) × (path_word? ws word ≡ true)) run
 
   -- reading from the sheet's first word on gives a head and then lawful items, and their words in this order are the sheet:
   -- none left out, none twice
-  pub record Read-whole : Type 0 where
+  pub record ReadWhole : Type 0 where
     pub later_parts : List Part
-    pub given : Gives 0 (head 0 (site-count ws) (rogue-limit ws) ∷ later_parts)
-    pub nothing_else : (parts : List Part) → Gives 0 parts → parts ≡ head 0 (site-count ws) (rogue-limit ws) ∷ later_parts
-    pub sites_in_range : (2 ≤ site-count ws) × (site-count ws ≤ 6)
-    pub rogues_in_range : rogue-limit ws ≤ 2
+    pub given : Gives 0 (head 0 (site_count ws) (rogue_limit ws) ∷ later_parts)
+    pub nothing_else : (parts : List Part) → Gives 0 parts → parts ≡ head 0 (site_count ws) (rogue_limit ws) ∷ later_parts
+    pub sites_in_range : (2 ≤ site_count ws) × (site_count ws ≤ 6)
+    pub rogues_in_range : rogue_limit ws ≤ 2
     pub lawful : All Lawful later_parts
-    pub whole : join_all (map words_of (head 0 (site-count ws) (rogue-limit ws) ∷ later_parts)) ≡ ws
+    pub whole : join_all (map words_of (head 0 (site_count ws) (rogue_limit ws) ∷ later_parts)) ≡ ws
 
   -- every sheet that passes rows 1 to 6 is read so
-  abbrev pub Reading-law : Type 0
-  Reading-law = well_formed ws ≡ Ok tt → Read-whole
+  abbrev pub ReadingLaw : Type 0
+  ReadingLaw = well_formed ws ≡ Ok tt → ReadWhole
 
 -- what opening a reader answers: it opens exactly if rows 1 to 6 pass, and stands before the first word
 abbrev pub Opens : List ℕ → Result Reader SheetRefusal → Type 0

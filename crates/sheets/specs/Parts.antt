@@ -55,11 +55,11 @@ module _ (ws : List ℕ) where
   word_at i = slice_index ws i
 
   -- n and f, as the head tells them
-  abbrev pub site-count : ℕ
-  site-count = word_at 0 / 16 % 16
+  abbrev pub site_count : ℕ
+  site_count = word_at 0 / 16 % 16
 
-  abbrev pub rogue-limit : ℕ
-  rogue-limit = word_at 0 % 16
+  abbrev pub rogue_limit : ℕ
+  rogue_limit = word_at 0 % 16
 
   -- how many words stand after the head
   abbrev pub later : ℕ
@@ -70,8 +70,8 @@ module _ (ws : List ℕ) where
   joined a b = any_from (λ i. nat_eq (word_at i) (edge_word a b)) 1 later
 
   -- a lawful path word whose sites are below n and whose successive sites are joined
-  abbrev pub path-word? : ℕ → Bool
-  path-word? w =
+  abbrev pub path_word? : ℕ → Bool
+  path_word? w =
       is_some (meaning w)
-      && (all_from (λ j. ltb (site_at w j) site-count) 0 (length (path_field w))
+      && (all_from (λ j. ltb (site_at w j) site_count) 0 (length (path_field w))
       && all_from (λ j. joined (site_at w j) (site_at w (j + 1))) 0 (length (path_field w) - 1))

@@ -1,7 +1,7 @@
 ghost use Rattle.std.specs.Prelude.{◌≡◌, ◌+◌, ◌-◌, ◌<◌, not, length, ◌==◌, slice_index};
 ghost use Rattle.sites.specs.Positions.{all_from};
 ghost use Rattle.words.specs.Layout.{path_field};
-ghost use Rattle.sheets.specs.Parts.{site_at, apart, joins_fan, fan?, rogue-limit};
+ghost use Rattle.sheets.specs.Parts.{site_at, apart, joins_fan, fan?, rogue_limit};
 ghost use Rattle.sheets.specs.Rows.{first_fan, run_at};
 
 use crate::parts::{end_of, rogue_limit};
@@ -80,7 +80,7 @@ pub fn first_fan(words: &[u32]) -> usize
 
 // How many words a fan has.
 pub(crate) fn fan_size(words: &[u32]) -> usize
-    ensures { result ≡ rogue-limit words.now + 1 }
+    ensures { result ≡ rogue_limit words.now + 1 }
 {
     rogue_limit(words) as usize + 1
 }

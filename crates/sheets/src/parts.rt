@@ -1,5 +1,5 @@
 ghost use Rattle.std.specs.Prelude.{◌≡◌, ◌-◌};
-ghost use Rattle.sheets.specs.Parts.{source, end, avoids as does-avoid, edge_word, word_at, site-count, rogue-limit, joined};
+ghost use Rattle.sheets.specs.Parts.{source, end, avoids as does_avoid, edge_word, word_at, site_count, rogue_limit, joined};
 
 use sites::SiteMask;
 use words::fields::{count_of, site_of};
@@ -16,14 +16,14 @@ pub(crate) fn head_of(words: &[u32]) -> u32
 
 /// How many sites the head tells.
 pub fn site_count(words: &[u32]) -> u8
-    ensures { result ≡ site-count words.now }
+    ensures { result ≡ site_count words.now }
 {
     (head_of(words) / 16 % 16) as u8
 }
 
 /// How many sites may be rogue, as the head tells.
 pub fn rogue_limit(words: &[u32]) -> u8
-    ensures { result ≡ rogue-limit words.now }
+    ensures { result ≡ rogue_limit words.now }
 {
     (head_of(words) % 16) as u8
 }
@@ -68,7 +68,7 @@ pub fn end_of(word: u32) -> u8
 
 /// Whether none of the sites between the two ends of a word's path is in a set.
 pub fn avoids(set: SiteMask, word: u32) -> bool
-    ensures { result ≡ does-avoid set.bits word }
+    ensures { result ≡ does_avoid set.bits word }
 {
     let stop = count_of(word).saturating_sub(1);
     for i in 1..stop {

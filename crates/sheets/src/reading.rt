@@ -1,6 +1,6 @@
 ghost use Rattle.std.specs.Prelude.{◌≡◌};
 ghost use Rattle.std.specs.Option.{option_map};
-ghost use Rattle.sheets.specs.Items.{part_of, item-at, place_after, Opens, Reading-law};
+ghost use Rattle.sheets.specs.Items.{part_of, item_at, place_after, Opens, ReadingLaw};
 
 use crate::fans::run_at;
 use crate::reader::{Item, Reader};
@@ -20,7 +20,7 @@ impl<'a> Reader<'a> {
     pub fn open(words: &'a [u32]) -> Result<Reader<'a>, SheetRefusal>
         ensures answer { Opens words.now result }
         // what is read from it is the whole sheet, in lawful items
-        ensures reading { Reading-law words.now }
+        ensures reading { ReadingLaw words.now }
     {
         check(words)?;
         Ok(Reader::at_start(words))
@@ -28,7 +28,7 @@ impl<'a> Reader<'a> {
 
     /// The item at the reader's place, behind which it then stands; past the end nothing.
     pub fn next(&mut self) -> Option<Item<'a>>
-        ensures gives { option_map part_of result ≡ item-at self.old.words.now self.old.at }
+        ensures gives { option_map part_of result ≡ item_at self.old.words.now self.old.at }
         ensures moves { self.new.at ≡ place_after self.old.words.now self.old.at }
         ensures same { self.new.words.now ≡ self.old.words.now }
     {

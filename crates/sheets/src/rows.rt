@@ -2,7 +2,7 @@ ghost use Rattle.std.specs.Prelude.{◌≡◌, ◌+◌, ◌-◌, ◌<◌, length
 ghost use Rattle.sites.specs.Positions.{all_from};
 ghost use Rattle.sites.specs.declared.refusal.Refusal.TheVariants.{SheetSize, Head, Kind, Edge, Path, Fan};
 ghost use Rattle.sheets.specs.Parts.{joined};
-ghost use Rattle.sheets.specs.Rows.{size-fault, head-fault, bad_kind, kind-fault, bad-edge, edge-fault, path-fault, first_fan, bad-fan, fan-fault};
+ghost use Rattle.sheets.specs.Rows.{size_fault, head_fault, bad_kind, kind_fault, bad_edge, edge_fault, path_fault, first_fan, bad_fan, fan_fault};
 ghost use Rattle.sheets.specs.Refusals.{told, well_formed};
 ghost use Rattle.sheets.specs.Steps.{path_told, wired, ReadsAt};
 
@@ -21,7 +21,7 @@ fn refused(refusal: Refusal, place: usize) -> Result<(), SheetRefusal>
 
 // Row 1: a sheet has 1 to 1,024 words.
 fn check_size(words: &[u32]) -> Result<(), SheetRefusal>
-    ensures { result ≡ told SheetSize (size-fault words.now) }
+    ensures { result ≡ told SheetSize (size_fault words.now) }
 {
     if words.len() == 0 || words.len() > 1024 {
         return refused(Refusal::SheetSize, 0);
@@ -31,7 +31,7 @@ fn check_size(words: &[u32]) -> Result<(), SheetRefusal>
 
 // Row 2: its first word is a head.
 fn check_head(words: &[u32]) -> Result<(), SheetRefusal>
-    ensures { result ≡ told Head (head-fault words.now) }
+    ensures { result ≡ told Head (head_fault words.now) }
 {
     let word = head_of(words);
     let n = word / 16 % 16;
@@ -51,7 +51,7 @@ fn is_bad_kind(words: &[u32], i: usize) -> bool
 
 // Row 3: each later kind is 9, 10 or 11, and not below the kind before.
 fn check_kinds(words: &[u32]) -> Result<(), SheetRefusal>
-    ensures { result ≡ told Kind (kind-fault words.now) }
+    ensures { result ≡ told Kind (kind_fault words.now) }
 {
     for i in 1..words.len() {
         if is_bad_kind(words, i) {
@@ -63,7 +63,7 @@ fn check_kinds(words: &[u32]) -> Result<(), SheetRefusal>
 
 fn is_bad_edge(words: &[u32], i: usize) -> bool
     requires { (0 < i) × (i < length words.now) }
-    ensures { result ≡ bad-edge words.now i }
+    ensures { result ≡ bad_edge words.now i }
 {
     let word = words[i];
     let low = word / 8 % 8;
@@ -74,7 +74,7 @@ fn is_bad_edge(words: &[u32], i: usize) -> bool
 
 // Row 4: each edge joins two different sites below n, the lower first, and is above the word before.
 fn check_edges(words: &[u32]) -> Result<(), SheetRefusal>
-    ensures { result ≡ told Edge (edge-fault words.now) }
+    ensures { result ≡ told Edge (edge_fault words.now) }
 {
     for i in 1..words.len() {
         if is_bad_edge(words, i) {
@@ -142,7 +142,7 @@ fn check_path(words: &[u32], i: usize) -> Result<(), SheetRefusal>
 
 // Row 5: each route and fan path is lawful, over sites below n, along edges.
 fn check_paths(words: &[u32]) -> Result<(), SheetRefusal>
-    ensures { result ≡ told Path (path-fault words.now) }
+    ensures { result ≡ told Path (path_fault words.now) }
 {
     for i in 1..words.len() {
         check_path(words, i)?;
@@ -152,7 +152,7 @@ fn check_paths(words: &[u32]) -> Result<(), SheetRefusal>
 
 fn is_bad_fan(words: &[u32], first: usize, i: usize) -> bool
     requires { (first ≡ first_fan words.now) × (i < length words.now) }
-    ensures { result ≡ bad-fan words.now i }
+    ensures { result ≡ bad_fan words.now i }
 {
     let size = fan_size(words);
     if i < first || (i - first) % size != 0 {
@@ -163,7 +163,7 @@ fn is_bad_fan(words: &[u32], first: usize, i: usize) -> bool
 
 // Row 6: fans are counted off from the first fan path, f + 1 words each.
 fn check_fans(words: &[u32]) -> Result<(), SheetRefusal>
-    ensures { result ≡ told Fan (fan-fault words.now) }
+    ensures { result ≡ told Fan (fan_fault words.now) }
 {
     let first = first_fan(words);
     for i in 1..words.len() {

@@ -19,7 +19,7 @@ use Rattle.notebooks.specs.Floods.{flood_word, floods, heard_in}
 use Rattle.notebooks.specs.Notebooks.{empty_book, note_round, take_round, owed_words, told_by}
 use Rattle.notebooks.proofs.Notebooks.{shown_none}
 use Rattle.runs.specs.State.{State, SiteRecord, blank, site, is_sound, last_turn, round, rounds_noted}
-use Rattle.runs.specs.Replies.{speech, turn_reply, all_spoke, turned, noting, weighed as bit-after}
+use Rattle.runs.specs.Replies.{speech, turn_reply, all_spoke, turned, noting, weighed as bit_after}
 use Rattle.runs.specs.Runs.{Entry, accepted_turns, transmitted}
 use Rattle.runs.proofs.Accepted.{all_spoke_from}
 use Rattle.runs.proofs.Follows.{Given, Follows, book_after, put_since, sound_is, silent_lane, turned_at, speech_is, turned_follows}
@@ -54,18 +54,18 @@ module _ (size : ℕ) (N : Network) (rogues bits : ℕ) (said : Said) (given : G
   abbrev record_of : Bool → (ℕ → Bool) → (ℕ → List ℕ) → ℕ → SiteRecord
   record_of spoken hold book s = cond (is_sound N rogues s) (record { holds = hold s; spoken = spoken; notebook = book s }) blank
 
-  abbrev floor-of : Bool → (ℕ → Bool) → (ℕ → List ℕ) → Lanes → ℕ → State
-  floor-of spoken hold book ls t = record { net = N; rogues = rogues; records = map (record_of spoken hold book) (range_with_len 0 6); lanes = ls; turns = t }
+  abbrev floor_of : Bool → (ℕ → Bool) → (ℕ → List ℕ) → Lanes → ℕ → State
+  floor_of spoken hold book ls t = record { net = N; rogues = rogues; records = map (record_of spoken hold book) (range_with_len 0 6); lanes = ls; turns = t }
 
   at_sound : (spoken : Bool) (hold : ℕ → Bool) (book : ℕ → List ℕ) (ls : Lanes) (t v : ℕ) → Sound N rogues v →
-      site (floor-of spoken hold book ls t) v ≡ record { holds = hold v; spoken = spoken; notebook = book v }
+      site (floor_of spoken hold book ls t) v ≡ record { holds = hold v; spoken = spoken; notebook = book v }
   at_sound spoken hold book ls t v h =
       get_or-map-range_with_len (record_of spoken hold book) 0 6 v v blank (omega (arith, h.0, given.small)) (omega arith)
       ∙ cond-true (is_sound N rogues v) _ blank (sound_is N rogues v h)
 
   follows_as : (spoken : Bool) (hold : ℕ → Bool) (book : ℕ → List ℕ) (ls : Lanes) (t : ℕ) → length ls ≡ 6 → t ≤ last_turn N →
       ((v : ℕ) → Sound N rogues v → hold v ≡ holds N said opening t v) → ((v : ℕ) → Sound N rogues v → book v ≡ book_after N said t v) →
-      ((v : ℕ) → Sound N rogues v → lane ls v ≡ put_since N said opening t v spoken) → Follows opening said (floor-of spoken hold book ls t)
+      ((v : ℕ) → Sound N rogues v → lane ls v ≡ put_since N said opening t v spoken) → Follows opening said (floor_of spoken hold book ls t)
   follows_as spoken hold book ls t six within bit note says = record {
     six_records = length-map-range_with_len (record_of spoken hold book) 0 6;
     six_lanes = six;
@@ -81,11 +81,11 @@ module _ (size : ℕ) (N : Network) (rogues bits : ℕ) (said : Said) (given : G
 
   -- ---- where the algorithm has an end stand after t turns
 
-  abbrev round-at : ℕ → ℕ → InRound
-  round-at t v = record { site = v; holds = holds N said opening t v; phase = t / m; round = t % m + 1; n = N.n; f = N.f }
+  abbrev round_at : ℕ → ℕ → InRound
+  round_at t v = record { site = v; holds = holds N said opening t v; phase = t / m; round = t % m + 1; n = N.n; f = N.f }
 
   abbrev stands_at : ℕ → ℕ → Standing
-  stands_at t v = cond (ltb t (last_turn N)) (in_round (round-at t v)) (done (holds N said opening t v))
+  stands_at t v = cond (ltb t (last_turn N)) (in_round (round_at t v)) (done (holds N said opening t v))
 
   -- the notebook that counts: before the first turn none does
   abbrev counted : ℕ → (ℕ → List ℕ) → ℕ → List ℕ
@@ -102,23 +102,23 @@ module _ (size : ℕ) (N : Network) (rogues bits : ℕ) (said : Said) (given : G
     hold v = holds N said opening t v
 
     abbrev quiet : State
-    quiet = floor-of false hold (counted t book) silent t
+    quiet = floor_of false hold (counted t book) silent t
 
     abbrev loud : State
-    loud = floor-of true hold (counted t book) ls t
+    loud = floor_of true hold (counted t book) ls t
 
     quiet_follows : Follows opening said quiet
     quiet_follows = follows_as false hold (counted t book) silent t refl (omega arith) (λ v h. refl) inv.notes (λ v h. silent_lane v)
 
-    state_is : (v : ℕ) (h : Sound N rogues v) → (turn v h).state ≡ round-at t v
+    state_is : (v : ℕ) (h : Sound N rogues v) → (turn v h).state ≡ round_at t v
     state_is v h =
-        let e : in_round (turn v h).state ≡ in_round (round-at t v) =
+        let e : in_round (turn v h).state ≡ in_round (round_at t v) =
         sym (turn v h).stood ∙ inv.stands v h ∙ cond-true (ltb t (last_turn N)) _ _ (lt-ltb t (last_turn N) before) in cc
 
     first_round : t ≡ 0 → t % m + 1 ≡ 1
     first_round e = ap (λ (x : ℕ). x % m + 1) e ∙ omega (arith, mod_below 0 m some, zero-mod m)
 
-    owed_is : (v : ℕ) → Sound N rogues v → owed_by N (round-at t v) (book v) ≡ map flood_word (owes N said opening t v)
+    owed_is : (v : ℕ) → Sound N rogues v → owed_by N (round_at t v) (book v) ≡ map flood_word (owes N said opening t v)
     owed_is v h =
         ⊎_elim
         (λ (z : t ≡ 0). owed_first N v (t % m + 1) (hold v) (book v) (counted t book v) (first_round z))
@@ -143,7 +143,7 @@ module _ (size : ℕ) (N : Network) (rogues bits : ℕ) (said : Said) (given : G
     one = omega arith
 
     -- the notebook and the bit after the turn
-    book_is : (v : ℕ) → Sound N rogues v → book_taken N ls (round-at t v) (book v) ≡ book_after N said (suc t) v
+    book_is : (v : ℕ) → Sound N rogues v → book_taken N ls (round_at t v) (book v) ≡ book_after N said (suc t) v
     unfolding noting
     book_is v h =
         ⊎_elim
@@ -155,17 +155,17 @@ module _ (size : ℕ) (N : Network) (rogues bits : ℕ) (said : Said) (given : G
         ∙ after.notes v h
         ∙ ap (λ (k : ℕ). book_after N said k v) one
 
-    bit_is : (v : ℕ) → Sound N rogues v → bit-after loud v ≡ holds N said opening (suc t) v
+    bit_is : (v : ℕ) → Sound N rogues v → bit_after loud v ≡ holds N said opening (suc t) v
     bit_is v h = sym (ap (λ (x : SiteRecord). x.holds) (turned_at loud v given.small h)) ∙ after.bits v h ∙ ap (λ (k : ℕ). holds N said opening k v) one
 
     -- where an end stands that has taken the last round of a phase, and weighed
-    across_is : (v : ℕ) → Sound N rogues v → t % m + 1 ≡ m → weighed_if_due N (book_taken N ls (round-at t v) (book v)) (taken (round-at t v)) ≡ stands_at (suc t) v
-    unfolding bit-after
+    across_is : (v : ℕ) → Sound N rogues v → t % m + 1 ≡ m → weighed_if_due N (book_taken N ls (round_at t v) (book v)) (taken (round_at t v)) ≡ stands_at (suc t) v
+    unfolding bit_after
     across_is v h e =
         let w : InWeighing = record { site = v; holds = hold v; phase = t / m; n = N.n; f = N.f } in
-        let new : List ℕ = book_taken N ls (round-at t v) (book v) in
+        let new : List ℕ = book_taken N ls (round_at t v) (book v) in
         let b : Bool = holds N said opening (suc t) v in
-        let due : taken (round-at t v) ≡ all_taken w = cond-false (ltb (t % m + 1) m) _ _ (le-ltb (t % m + 1) m (omega arith)) in
+        let due : taken (round_at t v) ≡ all_taken w = cond-false (ltb (t % m + 1) m) _ _ (le-ltb (t % m + 1) m (omega arith)) in
         let noted : new ≡ noting loud v = book_is v h ∙ sym (ap (λ (k : ℕ). book_after N said k v) one) ∙ sym (after.notes v h) ∙ ap (λ (x : SiteRecord). x.notebook) (turned_at loud v given.small h) in
         let bit : bit_weighed N w new ≡ b =
         ap (λ (x : List ℕ). weigh N (told_by N v x) (suspect N (t / m)) (hold v) v) noted
@@ -182,12 +182,12 @@ module _ (size : ℕ) (N : Network) (rogues bits : ℕ) (said : Said) (given : G
         ∙ ap (λ (k : ℕ). cond (ltb (suc t) (last_turn N)) (in_round (record { site = v; holds = b; phase = suc t / m; round = k; n = N.n; f = N.f })) (done b)) round
 
     -- where one stands that goes on in the phase
-    inside_is : (v : ℕ) → Sound N rogues v → (t % m + 1 ≡ m → ⊥) → weighed_if_due N (book_taken N ls (round-at t v) (book v)) (taken (round-at t v)) ≡ stands_at (suc t) v
-    unfolding bit-after
+    inside_is : (v : ℕ) → Sound N rogues v → (t % m + 1 ≡ m → ⊥) → weighed_if_due N (book_taken N ls (round_at t v) (book v)) (taken (round_at t v)) ≡ stands_at (suc t) v
+    unfolding bit_after
     inside_is v h d =
-        let new : List ℕ = book_taken N ls (round-at t v) (book v) in
+        let new : List ℕ = book_taken N ls (round_at t v) (book v) in
         let low : t % m + 1 < m = ⊎_elim (λ (l : t % m + 1 < m). l) (λ (l : m ≤ t % m + 1). absurd (d (omega (arith, mod_below t m some)))) (cases_lt (t % m + 1) m) in
-        let on : taken (round-at t v) ≡ next_round (record { site = v; holds = hold v; phase = t / m; round = t % m + 1 + 1; n = N.n; f = N.f }) = cond-true (ltb (t % m + 1) m) _ _ (lt-ltb (t % m + 1) m low) in
+        let on : taken (round_at t v) ≡ next_round (record { site = v; holds = hold v; phase = t / m; round = t % m + 1 + 1; n = N.n; f = N.f }) = cond-true (ltb (t % m + 1) m) _ _ (lt-ltb (t % m + 1) m low) in
         let bit : hold v ≡ holds N said opening (suc t) v =
         ap (λ (x : SiteRecord). x.holds) (sym (at_sound true hold (counted t book) ls t v h))
         ∙ sym (cond-false (eqb (t % m + 1) m) _ _ (ne_eqb (t % m + 1) m d))

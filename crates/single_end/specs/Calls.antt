@@ -9,21 +9,21 @@ use Rattle.single_end.specs.States.{seen_round, seen_weighing}
 use Rattle.single_end.specs.declared.round.Round.{Round}
 use Rattle.single_end.specs.declared.weighing_state.Weighing.{Weighing}
 use Rattle.single_end.specs.declared.taking.Taken.{Taken}
-use Rattle.single_end.specs.declared.taking.Taken.TheVariants as taken-case
+use Rattle.single_end.specs.declared.taking.Taken.TheVariants as taken_case
 use Rattle.single_end.specs.declared.weighing.Weighed.{Weighed}
-use Rattle.single_end.specs.declared.weighing.Weighed.TheVariants as weighed-case
+use Rattle.single_end.specs.declared.weighing.Weighed.TheVariants as weighed_case
 
 abbrev pub begins : Result Round Refusal → Result InRound Refusal
 begins (Ok r) = Ok (seen_round r)
 begins (Err e) = Err e
 
 abbrev pub seen_taken : Taken → Afterwards
-seen_taken (taken-case.Round r) = next_round (seen_round r)
-seen_taken (taken-case.Weighing w) = all_taken (seen_weighing w)
+seen_taken (taken_case.Round r) = next_round (seen_round r)
+seen_taken (taken_case.Weighing w) = all_taken (seen_weighing w)
 
 abbrev pub seen_weighed : Weighed → Standing
-seen_weighed (weighed-case.Round r) = in_round (seen_round r)
-seen_weighed (weighed-case.Done d) = done d.bit
+seen_weighed (weighed_case.Round r) = in_round (seen_round r)
+seen_weighed (weighed_case.Done d) = done d.bit
 
 -- a refused take gives the state back and leaves the notebook
 abbrev pub Takes : Network → Lanes → InRound → List ℕ → List ℕ → Result Taken (Refusal × Round) → Type 0

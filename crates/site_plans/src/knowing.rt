@@ -1,5 +1,5 @@
 ghost use Rattle.std.specs.Prelude.{◌≡◌, ◌≤◌};
-ghost use Rattle.theory.specs.Runs.{phases as phases-of, suspect as suspect-of};
+ghost use Rattle.theory.specs.Runs.{phases as phases_of, suspect as suspect_of};
 ghost use Rattle.site_plans.specs.Tables.{site_network, Fits};
 
 use crate::site_plan::SitePlan;
@@ -16,14 +16,14 @@ impl SitePlan {
 
     /// How many phases a run has.
     pub fn phases(&self) -> usize
-        ensures { result ≡ phases-of (site_network self.now) }
+        ensures { result ≡ phases_of (site_network self.now) }
     {
         self.plan.suspect_count()
     }
 
     /// The suspect set of a phase; past the last phase the empty set.
     pub fn suspect(&self, phase: usize) -> SiteMask
-        ensures { result.bits ≡ suspect-of (site_network self.now) phase }
+        ensures { result.bits ≡ suspect_of (site_network self.now) phase }
     {
         match self.plan.suspect(phase) {
             Some(set) => set,

@@ -1,5 +1,5 @@
 ghost use Rattle.std.specs.Prelude.{◌≡◌, ℕ, ◌+◌, ◌*◌, ◌^◌, ◌<◌, ◌≤◌, [], ◌∷◌, ◌++◌, length, slice_set};
-ghost use Rattle.tables.specs.Steps.{can_go, gone_on, walks, root as root-step};
+ghost use Rattle.tables.specs.Steps.{can_go, gone_on, walks, root as root_step};
 ghost use Rattle.tables.specs.Drafts.{drafted, Lists};
 
 use crate::draft::Draft;
@@ -12,7 +12,7 @@ impl Step {
     // The path of no site, which may go on to any site below n but v.
     fn root(n: u8, v: u8) -> Step
         requires { (v < n) × (n ≤ 6) }
-        ensures { result ≡ root-step n v }
+        ensures { result ≡ root_step n v }
     {
         Step {
             path: ExpectedPath {
@@ -102,8 +102,8 @@ impl Draft {
 
     // Writes the paths of k sites.
     fn level(&mut self, wiring: &Wiring, v: u8, k: u8)
-        requires { (v < wiring.now.n) × ((k < 6) × (length (drafted self.old) + length (walks wiring.now.near v (root-step wiring.now.n v) k) ≤ 325)) }
-        ensures paths { drafted self.new ≡ drafted self.old ++ walks wiring.now.near v (root-step wiring.now.n v) k }
+        requires { (v < wiring.now.n) × ((k < 6) × (length (drafted self.old) + length (walks wiring.now.near v (root_step wiring.now.n v) k) ≤ 325)) }
+        ensures paths { drafted self.new ≡ drafted self.old ++ walks wiring.now.near v (root_step wiring.now.n v) k }
         ensures ends { self.new.ends ≡ slice_set self.old.ends k (length (drafted self.new)) }
     {
         self.walk(wiring, v, Step::root(wiring.n, v), k);

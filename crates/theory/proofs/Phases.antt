@@ -166,8 +166,8 @@ module _ (N : Network) (rogues : ℕ) (opening : ℕ → Bool) (said : Said) (tu
           (λ k. (b.2.0, b.2.1, new ∙ k (hear (front b.0)) (in_map (λ q. hear (front q)) (N.fan F v A) b.0 b.1) ∙ b.2.2))
           (agreed_is own (map (λ q. hear (front q)) (N.fan F v A)))
 
-  abbrev flooded-zeros : ℕ
-  flooded-zeros = mask_of N.n (λ u. not (flooded said (start N p) u))
+  abbrev flooded_zeros : ℕ
+  flooded_zeros = mask_of N.n (λ u. not (flooded said (start N p) u))
 
   module _ (covers : Covers N rogues p) where
     cleared : (s : ℕ) → s < N.n → in_set (suspect N p) s ≡ false → Sound N rogues s
@@ -179,7 +179,7 @@ module _ (N : Network) (rogues : ℕ) (opening : ℕ → Bool) (said : Said) (tu
         (all_of (Sound N rogues) t.inner (λ s i. cleared s (all_in (λ s. s < N.n) q s t.sites (inner_in N (suspect N p) u v q t s i)) (all_in (λ s. in_set (suspect N p) s ≡ false) t.inner s t.avoids i)))
 
     -- every sound site finds the same zeros
-    zeros_same : (v : ℕ) → Sound N rogues v → zeros N hear (suspect N p) (held N said opening p v) v ≡ flooded-zeros
+    zeros_same : (v : ℕ) → Sound N rogues v → zeros N hear (suspect N p) (held N said opening p v) v ≡ flooded_zeros
     unfolding zeros
     zeros_same v h = mask_of_same N.n _ (λ u. not (flooded said (start N p) u)) (λ u l. ap not (⊎_elim
         (λ (e : eqb u v ≡ true). cond-true (eqb u v) (held N said opening p v) _ e ∙ sym (floods v h) ∙ ap (flooded said (start N p)) (sym (eqb-true u v e)))
@@ -187,31 +187,31 @@ module _ (N : Network) (rogues : ℕ) (opening : ℕ → Bool) (said : Said) (tu
         (cases_Bool (eqb u v))))
 
     abbrev A : ℕ
-    A = keepers N.n N.f (suspect N p) flooded-zeros
+    A = keepers N.n N.f (suspect N p) flooded_zeros
 
     -- the bit of those that keep theirs
-    abbrev kept-bit : Bool
-    kept-bit = ones_keep N.n N.f (suspect N p) flooded-zeros
+    abbrev kept_bit : Bool
+    kept_bit = ones_keep N.n N.f (suspect N p) flooded_zeros
 
     -- all that keep their bit flooded the same one
-    keepers_flooded : (u : ℕ) → u < N.n → in_set A u ≡ true → flooded said (start N p) u ≡ kept-bit
-    keepers_flooded u l e = go kept-bit (ap (λ (m : ℕ). in_set m u) (sym (keepers_are N.n N.f (suspect N p) flooded-zeros)) ∙ e)
+    keepers_flooded : (u : ℕ) → u < N.n → in_set A u ≡ true → flooded said (start N p) u ≡ kept_bit
+    keepers_flooded u l e = go kept_bit (ap (λ (m : ℕ). in_set m u) (sym (keepers_are N.n N.f (suspect N p) flooded_zeros)) ∙ e)
       where
         bit : Bool
         bit = flooded said (start N p) u
 
-        in_zeros : in_set flooded-zeros u ≡ not bit
+        in_zeros : in_set flooded_zeros u ≡ not bit
         in_zeros = in_set_mask_of N.n (λ u. not (flooded said (start N p) u)) u l
 
-        go : (b : Bool) → in_set (cond b (others N.n flooded-zeros) flooded-zeros) u ≡ true → bit ≡ b
-        go true k = not-false bit (not-true (not bit) (ap not (sym in_zeros) ∙ sym (in_set_others u N.n flooded-zeros l (mask_of_below N.n (λ u. not (flooded said (start N p) u)))) ∙ k))
+        go : (b : Bool) → in_set (cond b (others N.n flooded_zeros) flooded_zeros) u ≡ true → bit ≡ b
+        go true k = not-false bit (not-true (not bit) (ap not (sym in_zeros) ∙ sym (in_set_others u N.n flooded_zeros l (mask_of_below N.n (λ u. not (flooded said (start N p) u)))) ∙ k))
         go false k = not-true bit (sym in_zeros ∙ k)
 
-    pub phase_agrees : (v : ℕ) → Sound N rogues v → held N said opening (suc p) v ≡ kept-bit
+    pub phase_agrees : (v : ℕ) → Sound N rogues v → held N said opening (suc p) v ≡ kept_bit
     unfolding held
     phase_agrees v h = ⊎_elim
         (λ e. weigh_kept N hear F v A own same e ∙ sym (floods v h) ∙ keepers_flooded v h.0 e)
-        (λ e. weigh_moved N hear F v A own same e ∙ agreed_all own kept-bit (map (λ q. hear (front q)) (N.fan F v A)) (many e) (each e))
+        (λ e. weigh_moved N hear F v A own same e ∙ agreed_all own kept_bit (map (λ q. hear (front q)) (N.fan F v A)) (many e) (each e))
         (cases_Bool (in_set A v))
       where
         F : ℕ
@@ -224,12 +224,12 @@ module _ (N : Network) (rogues : ℕ) (opening : ℕ → Bool) (said : Said) (tu
         same = ap (keepers N.n N.f F) (zeros_same v h)
 
         fan : in_set A v ≡ false → Fan N F v A (N.fan F v A)
-        fan e = run.lawful.fans F v flooded-zeros (suspect_is N p) h.0 (mask_of_below N.n (λ u. not (flooded said (start N p) u))) e
+        fan e = run.lawful.fans F v flooded_zeros (suspect_is N p) h.0 (mask_of_below N.n (λ u. not (flooded said (start N p) u))) e
 
         many : in_set A v ≡ false → 0 < length (map (λ q. hear (front q)) (N.fan F v A))
         many e = rw length-map (omega (arith, (fan e).many))
 
-        each : in_set A v ≡ false → (x : Bool) → In x (map (λ q. hear (front q)) (N.fan F v A)) → x ≡ kept-bit
+        each : in_set A v ≡ false → (x : Bool) → In x (map (λ q. hear (front q)) (N.fan F v A)) → x ≡ kept_bit
         each e x i =
             let r = in_mapped (λ q. hear (front q)) (N.fan F v A) x i in
             let t = all_in (λ q. (u : ℕ) × (in_set A u ≡ true) × Way N F u v q) (N.fan F v A) r.0 (fan e).paths r.1 in

@@ -3,7 +3,7 @@ use Rattle.std.proofs.lemmas.Bool.{false≢true}
 use Rattle.airs.specs.Lanes.{count_of}
 use Rattle.airs.proofs.Reading.{at_word, at_never_none, read_more, read_all}
 use Rattle.airs.proofs.laws.agrees.Goals as goal
-use Rattle.airs.proofs.laws.agrees.Goals.{in-Some+else-word-words, in-default}
+use Rattle.airs.proofs.laws.agrees.Goals.{in-Some+else-word-words, in_default}
 
 pub returns-then-word-words : goal.returns-then-word-words
 returns-then-word-words g c =
@@ -20,7 +20,7 @@ loop-k-preserved g c =
     let l : k < count_of ls s = omega arith in
     elim c.match-at.branch [
       | in-Some+else-word-words w ↦ read_more ls s k w.in-Some.word c.args.words.now c.requires (omega arith) c.loop-k.invariant w.in-Some.ensures w.if-word-words.false
-      | in-default w ↦ absurd (at_never_none ls s k l w.in-default.ensures)
+      | in_default w ↦ absurd (at_never_none ls s k l w.in_default.ensures)
     ]
 
 pub returns : goal.returns

@@ -8,7 +8,7 @@ loop-place-preserved c =
     let i = c.loop-place.place in
     let l : i < length book.words = omega (arith, book.long) in
     let m : i < length c.args.words.now = omega (arith, c.requires) in
-    copy_more book.words _ c.args.words.now i l m c.loop-place.invariant c.set-word.ensures.after
+    copy_more book.words _ c.args.words.now i l m c.loop-place.invariant c.set_word.ensures.after
 
 pub returns : goal.returns
 returns c =

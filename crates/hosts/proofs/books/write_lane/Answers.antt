@@ -4,7 +4,7 @@ use Rattle.airs.specs.Boards.{board_lanes}
 use Rattle.airs.specs.Lanes.{lane}
 use Rattle.hosts.proofs.Copies.{lane_begins, some_word, lane_more, lane_ends}
 use Rattle.hosts.proofs.books.write_lane.Goals as goal
-use Rattle.hosts.proofs.books.write_lane.Goals.{in-Some, in-default}
+use Rattle.hosts.proofs.books.write_lane.Goals.{in-Some, in_default}
 
 pub loop-k-init : goal.loop-k-init
 loop-k-init c =
@@ -21,7 +21,7 @@ loop-k-preserved c =
     let room : k + 1 < length old = omega (arith, length-set c.args.words.now 0 count, c.requires.0, c.requires.1, c.count-count.ensures) in
     elim c.match-at.branch [
       | in-Some w ↦ w.words-is ∙ lane_more ls old c.loop-k.words k w.in-Some.word l w.in-Some.ensures c.loop-k.invariant room
-      | in-default w ↦ absurd (some_word ls k l w.in-default.ensures)
+      | in_default w ↦ absurd (some_word ls k l w.in_default.ensures)
     ]
 
 pub returns : goal.returns

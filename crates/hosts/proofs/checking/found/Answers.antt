@@ -4,8 +4,8 @@ use Rattle.hosts.specs.Sheets.{placeless, checked, place_in, checked_place}
 use Rattle.hosts.proofs.Places.{place_fits}
 use Rattle.hosts.proofs.checking.found.Goals as goal
 
-pub overflow-cast-result-in-Err : goal.overflow-cast-result-in-Err
-overflow-cast-result-in-Err c = omega (arith, place_fits c.args.sheet.now c.in-Err.refused (sym c.in-Err.ensures.answer))
+pub overflow_cast-result-in-Err : goal.overflow_cast-result-in-Err
+overflow_cast-result-in-Err c = omega (arith, place_fits c.args.sheet.now c.in-Err.refused (sym c.in-Err.ensures.answer))
 
 pub returns-in-Ok : goal.returns-in-Ok
 unfolding checked checked_place

@@ -12,6 +12,6 @@ loop-k-preserved c =
     let old = c.args.answers.now in
     let k = c.loop-k.k in
     let room : 2 * (k + 1) ≤ length old = omega (arith, c.requires.1) in (
-      state_more st ws mid _ k c.named-call-call.result c.loop-k.invariant.0 c.named-call-call.ensures c.answer-pair.ensures.after,
-      answers_more st ws mid k c.named-call-call.result c.answer-pair.result old c.loop-k.answers c.loop-k.invariant.0 c.named-call-call.ensures c.answer-pair.ensures.answer room c.loop-k.invariant.1,
+      state_more st ws mid _ k c.named_call-call.result c.loop-k.invariant.0 c.named_call-call.ensures c.answer-pair.ensures.after,
+      answers_more st ws mid k c.named_call-call.result c.answer-pair.result old c.loop-k.answers c.loop-k.invariant.0 c.named_call-call.ensures c.answer-pair.ensures.answer room c.loop-k.invariant.1,
     )

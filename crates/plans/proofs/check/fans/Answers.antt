@@ -6,5 +6,5 @@ use Rattle.plans.proofs.check.fans.Goals as goal
 pub loop-k-preserved : goal.loop-k-preserved
 loop-k-preserved c = grind (arith, nat_tests, first_miss)
 
-pub returns-then-not-is-fanned : goal.returns-then-not-is-fanned
-returns-then-not-is-fanned c = search (rules, first_hit)
+pub returns-then-not-is_fanned : goal.returns-then-not-is_fanned
+returns-then-not-is_fanned c = search (rules, first_hit)

@@ -6,5 +6,5 @@ use Rattle.plans.proofs.check.is_fanned.Goals as goal
 pub loop-at-preserved : goal.loop-at-preserved
 loop-at-preserved c = grind (arith, nat_tests, all_pass)
 
-pub returns-then-not-is-fed : goal.returns-then-not-is-fed
-returns-then-not-is-fed c = search (rules, all_fail)
+pub returns-then-not-is_fed : goal.returns-then-not-is_fed
+returns-then-not-is_fed c = search (rules, all_fail)

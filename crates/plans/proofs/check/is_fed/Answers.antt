@@ -6,5 +6,5 @@ use Rattle.plans.proofs.check.is_fed.Goals as goal
 pub loop-bits-preserved : goal.loop-bits-preserved
 loop-bits-preserved c = grind (arith, nat_tests, all_pass)
 
-pub returns-then-is-none : goal.returns-then-is-none
-returns-then-is-none c = search (rules, all_fail)
+pub returns-then-is_none : goal.returns-then-is_none
+returns-then-is_none c = search (rules, all_fail)

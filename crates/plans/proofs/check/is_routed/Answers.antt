@@ -6,5 +6,5 @@ use Rattle.plans.proofs.check.is_routed.Goals as goal
 pub loop-from-preserved : goal.loop-from-preserved
 loop-from-preserved c = grind (arith, nat_tests, all_pass)
 
-pub returns-then-not-reaches-all : goal.returns-then-not-reaches-all
-returns-then-not-reaches-all c = search (rules, all_fail)
+pub returns-then-not-reaches_all : goal.returns-then-not-reaches_all
+returns-then-not-reaches_all c = search (rules, all_fail)

@@ -6,5 +6,5 @@ use Rattle.plans.proofs.check.reaches_all.Goals as goal
 pub loop-to-preserved : goal.loop-to-preserved
 loop-to-preserved c = grind (arith, nat_tests, all_pass)
 
-pub returns-then-is-none : goal.returns-then-is-none
-returns-then-is-none c = search (rules, all_fail)
+pub returns-then-is_none : goal.returns-then-is_none
+returns-then-is_none c = search (rules, all_fail)

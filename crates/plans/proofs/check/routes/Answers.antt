@@ -6,5 +6,5 @@ use Rattle.plans.proofs.check.routes.Goals as goal
 pub loop-k-preserved : goal.loop-k-preserved
 loop-k-preserved c = grind (arith, nat_tests, first_miss)
 
-pub returns-then-not-is-routed : goal.returns-then-not-is-routed
-returns-then-not-is-routed c = search (rules, first_hit)
+pub returns-then-not-is_routed : goal.returns-then-not-is_routed
+returns-then-not-is_routed c = search (rules, first_hit)

@@ -3,4 +3,4 @@ use Rattle.plans.proofs.places.is_here.Goals as goal
 
 pub returns : goal.returns
 unfolding route_here
-returns c = c.is-route.ensures
+returns c = c.is_route.ensures

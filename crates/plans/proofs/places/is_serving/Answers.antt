@@ -6,5 +6,5 @@ use Rattle.plans.proofs.places.is_serving.Goals as goal
 pub loop-k-preserved : goal.loop-k-preserved
 loop-k-preserved c = grind (arith, nat_tests, all_pass)
 
-pub returns-then-not-begins-among : goal.returns-then-not-begins-among
-returns-then-not-begins-among c = search (rules, all_fail)
+pub returns-then-not-begins_among : goal.returns-then-not-begins_among
+returns-then-not-begins_among c = search (rules, all_fail)

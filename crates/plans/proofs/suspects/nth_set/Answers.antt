@@ -4,8 +4,8 @@ use Rattle.std.proofs.lemmas.Bool.Decides.{nat_tests}
 use Rattle.plans.proofs.Sets.{nth_is, pair_within}
 use Rattle.plans.proofs.suspects.nth_set.Goals as goal
 
-pub offset-bounds-k : goal.offset-bounds-k
-offset-bounds-k c = omega (arith, pair_within c.args.n c.args.f c.args.k (omega arith) (omega arith) (omega arith))
+pub offset_bounds-k : goal.offset_bounds-k
+offset_bounds-k c = omega (arith, pair_within c.args.n c.args.f c.args.k (omega arith) (omega arith) (omega arith))
 
 pub bounds-k : goal.bounds-k
 bounds-k c = omega (arith, pair_within c.args.n c.args.f c.args.k (omega arith) (omega arith) (omega arith))

@@ -9,5 +9,5 @@ returns-in-0 c = let e = number_is c.args.n c.args.f (omega arith) (omega arith)
 pub returns-in-1 : goal.returns-in-1
 returns-in-1 c = let e = number_is c.args.n c.args.f (omega arith) (omega arith) in grind (arith, nat_tests, e)
 
-pub returns-in-default : goal.returns-in-default
-returns-in-default c = let e = number_is c.args.n c.args.f (omega arith) (omega arith) in grind (arith, nat_tests, e)
+pub returns-in_default : goal.returns-in_default
+returns-in_default c = let e = number_is c.args.n c.args.f (omega arith) (omega arith) in grind (arith, nat_tests, e)

@@ -26,9 +26,9 @@ loop-byte-preserved c =
     sym (step c.args.base c.loop-byte.value c.args.bytes.now c.loop-byte.byte-index (omega arith) (Some c.in-Some.next) c.in-Some.ensures)
     ∙ c.loop-byte.invariant
 
-pub returns-in-default : goal.returns-in-default
-returns-in-default c =
-    sym (step c.args.base c.loop-byte.value c.args.bytes.now c.loop-byte.byte-index (omega arith) None c.in-default.ensures)
+pub returns-in_default : goal.returns-in_default
+returns-in_default c =
+    sym (step c.args.base c.loop-byte.value c.args.bytes.now c.loop-byte.byte-index (omega arith) None c.in_default.ensures)
     ∙ c.loop-byte.invariant
 
 pub returns : goal.returns

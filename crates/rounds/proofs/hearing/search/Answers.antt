@@ -2,7 +2,7 @@ use Rattle.std.proofs.Common.{◌≡◌, ◌<◌, ◌≤◌, length, sym, ◌∙
 use Rattle.airs.specs.Lanes.{lane}
 use Rattle.rounds.proofs.Scans.{first_zero, first_one, first_skip, first_end, never_none}
 use Rattle.rounds.proofs.hearing.search.Goals as goal
-use Rattle.rounds.proofs.hearing.search.Goals.{in-Some+else-word-wanted+else-word-wanted-2, in-default}
+use Rattle.rounds.proofs.hearing.search.Goals.{in-Some+else-word-wanted+else-word-wanted-2, in_default}
 
 pub returns-then-word-wanted : goal.returns-then-word-wanted
 returns-then-word-wanted g c =
@@ -23,7 +23,7 @@ loop-k-preserved g c =
     elim c.match-at.branch [
       | in-Some+else-word-wanted+else-word-wanted-2 w ↦
           sym (first_skip c.args.wanted c.loop-k.k w.in-Some.word ls lt w.in-Some.ensures w.if-word-wanted.false w.if-word-wanted-2.false) ∙ c.loop-k.invariant
-      | in-default w ↦ absurd (never_none c.loop-k.k ls lt (sym w.in-default.is ∙ c.at.ensures))
+      | in_default w ↦ absurd (never_none c.loop-k.k ls lt (sym w.in_default.is ∙ c.at.ensures))
     ]
 
 pub returns : goal.returns

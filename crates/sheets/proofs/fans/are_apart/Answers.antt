@@ -12,4 +12,4 @@ pub loop-i-preserved : goal.loop-i-preserved
 loop-i-preserved c =
     let w = c.args.w in
     let here = subst (λ (s : ℕ). all_from (λ j. not (eqb s (site_at w j))) 0 (length (path_field w) - 1) ≡ true) c.site_of.ensures (sym c.lacks.ensures ∙ c.if-not-lacks.false) in
-    sym (all_pass _ c.loop-i.i c.saturating-sub-stop.result (omega arith) here) ∙ c.loop-i.invariant
+    sym (all_pass _ c.loop-i.i c.saturating_sub-stop.result (omega arith) here) ∙ c.loop-i.invariant

@@ -3,8 +3,8 @@ use Rattle.std.proofs.lemmas.Bool.Decides.{nat_tests}
 use Rattle.sites.proofs.Positions.{all_fail, all_pass}
 use Rattle.sheets.proofs.fans.is_apart_from_earlier.Goals as goal
 
-pub returns-then-not-are-apart : goal.returns-then-not-are-apart
-returns-then-not-are-apart c = search (rules, all_fail)
+pub returns-then-not-are_apart : goal.returns-then-not-are_apart
+returns-then-not-are_apart c = search (rules, all_fail)
 
 pub loop-j-preserved : goal.loop-j-preserved
 loop-j-preserved c = grind (arith, nat_tests, all_pass)

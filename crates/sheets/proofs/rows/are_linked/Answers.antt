@@ -3,8 +3,8 @@ use Rattle.std.proofs.lemmas.Bool.Decides.{nat_tests}
 use Rattle.sites.proofs.Positions.{all_fail, all_pass}
 use Rattle.sheets.proofs.rows.are_linked.Goals as goal
 
-pub returns-then-not-are-joined : goal.returns-then-not-are-joined
-returns-then-not-are-joined c = search (rules, all_fail)
+pub returns-then-not-are_joined : goal.returns-then-not-are_joined
+returns-then-not-are_joined c = search (rules, all_fail)
 
 pub loop-j-preserved : goal.loop-j-preserved
 loop-j-preserved c = grind (arith, nat_tests, all_pass)

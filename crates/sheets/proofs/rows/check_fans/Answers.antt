@@ -3,8 +3,8 @@ use Rattle.std.proofs.lemmas.Bool.Decides.{nat_tests}
 use Rattle.sites.proofs.Positions.{first_hit, first_miss}
 use Rattle.sheets.proofs.rows.check_fans.Goals as goal
 
-pub returns-then-is-bad-fan : goal.returns-then-is-bad-fan
-returns-then-is-bad-fan c = search (rules, first_hit)
+pub returns-then-is_bad_fan : goal.returns-then-is_bad_fan
+returns-then-is_bad_fan c = search (rules, first_hit)
 
 pub loop-i-preserved : goal.loop-i-preserved
 loop-i-preserved c = grind (arith, nat_tests, first_miss)

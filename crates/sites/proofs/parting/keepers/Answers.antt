@@ -7,9 +7,9 @@ pub returns-then-count-limit : goal.returns-then-count-limit
 unfolding keepers
 returns-then-count-limit c = record { any = grind (arith, nat_tests); named = λ l. grind (arith, nat_tests) }
 
-pub returns-then-zero-suspects-half : goal.returns-then-zero-suspects-half
+pub returns-then-zero_suspects-half : goal.returns-then-zero_suspects-half
 unfolding keepers
-returns-then-zero-suspects-half c = record { any = grind (arith, nat_tests); named = λ l. grind (arith, nat_tests) }
+returns-then-zero_suspects-half c = record { any = grind (arith, nat_tests); named = λ l. grind (arith, nat_tests) }
 
 pub returns-then-count-limit-2 : goal.returns-then-count-limit-2
 unfolding keepers

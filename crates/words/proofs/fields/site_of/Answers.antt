@@ -13,8 +13,8 @@ field_at w (suc (suc (suc (suc zero)))) h = refl
 field_at w (suc (suc (suc (suc (suc zero))))) h = refl
 field_at w (suc (suc (suc (suc (suc (suc i)))))) h = absurd (omega arith)
 
-pub returns-then-place-count-of : goal.returns-then-place-count-of
-returns-then-place-count-of c = sym (get_or_past (path_field c.args.word) c.args.place 0 (omega arith))
+pub returns-then-place-count_of : goal.returns-then-place-count_of
+returns-then-place-count_of c = sym (get_or_past (path_field c.args.word) c.args.place 0 (omega arith))
 
 pub returns : goal.returns
 returns c =

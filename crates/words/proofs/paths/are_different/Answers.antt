@@ -6,8 +6,8 @@ use Rattle.words.proofs.paths.are_different.Goals as goal
 pub returns-then-sites-i-ge6 : goal.returns-then-sites-i-ge6
 returns-then-sites-i-ge6 c = search (rules, all_fail)
 
-pub returns-then-not-is-fresh : goal.returns-then-not-is-fresh
-returns-then-not-is-fresh c = search (rules, all_fail)
+pub returns-then-not-is_fresh : goal.returns-then-not-is_fresh
+returns-then-not-is_fresh c = search (rules, all_fail)
 
 pub loop-i-preserved : goal.loop-i-preserved
 loop-i-preserved c = grind (arith, nat_tests, all_pass)

@@ -21,7 +21,7 @@ pub returns : goal.returns
 returns c = record {
   front = search (rules, overwrites);
   zeros = all_by _ (length c.args.sites.now) (6 - length c.args.sites.now) (λ k lo hi. eq-eqb _ _
-      (get_or-append_right c.copy-from-slice.new.self _ (length c.copy-from-slice.new.self) k 0 refl (omega (arith, c.copy-from-slice.ensures.len))
-      ∙ past_zero (length c.args.sites.now - 0) (k - length c.copy-from-slice.new.self)));
+      (get_or-append_right c.copy_from_slice.new.self _ (length c.copy_from_slice.new.self) k 0 refl (omega (arith, c.copy_from_slice.ensures.len))
+      ∙ past_zero (length c.args.sites.now - 0) (k - length c.copy_from_slice.new.self)));
   six = search (rules, places);
 }

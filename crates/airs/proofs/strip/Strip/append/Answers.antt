@@ -21,8 +21,8 @@ bounds-self-count c =
     let t = c.args.self.now in
     omega (arith, c.requires.1, counted t c.args.site c.requires.0)
 
-pub invariant-of-self : goal.invariant-of-self
-invariant-of-self c =
+pub invariant_of-self : goal.invariant_of-self
+invariant_of-self c =
     let t = c.args.self.now in
     let s = c.args.site in
     let w = c.args.word in

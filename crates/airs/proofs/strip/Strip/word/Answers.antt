@@ -4,8 +4,8 @@ use Rattle.airs.proofs.Puts.{site_below}
 use Rattle.airs.proofs.Strips.{counted, place_fits, reads}
 use Rattle.airs.proofs.strip.Strip.word.Goals as goal
 
-pub offset-bounds-self-position : goal.offset-bounds-self-position
-offset-bounds-self-position c =
+pub offset_bounds-self-position : goal.offset_bounds-self-position
+offset_bounds-self-position c =
     let t = c.args.self.now in
     let s = c.args.site in
     let k = c.args.position in

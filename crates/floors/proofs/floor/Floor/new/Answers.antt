@@ -17,8 +17,8 @@ parts N M rs qs ls ms rogues turns a b c = cc
 pub returns : goal.returns
 unfolding network
 returns g c =
-    let e = ap network_of c.built-in-plan.ensures in
-    let n : c.site-count.result ≡ built_in.n = c.site-count.ensures.value ∙ ap (λ (N : Network). N.n) e in
+    let e = ap network_of c.built_in-plan.ensures in
+    let n : c.site_count.result ≡ built_in.n = c.site_count.ensures.value ∙ ap (λ (N : Network). N.n) e in
     parts _ _ _ _ _ _ 0 0 (ap network c.of.ensures ∙ e)
     (c.opened.ensures ∙ ap (λ (k : ℕ). map (λ s. fresh (sound_of k 0 s && in_set 0 s)) (range_with_len 0 6)) n)
     c.clear.ensures

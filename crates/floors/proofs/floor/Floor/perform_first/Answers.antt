@@ -20,9 +20,9 @@ loop-i-preserved g c =
     let inv = c.loop-i.invariant in
     let l : i < length cs = omega (arith, c.requires.0) in
     let m : i < length old = omega (arith, c.requires.1) in (
-      after_more z st mid _ cs i (Transmit 0 0) l inv.0 c.perform-one.ensures.after,
-      answers_more z st mid cs old c.loop-i.answers i (Transmit 0 0) c.perform-one.result (Count 0) l m inv.0 inv.1 c.perform-one.ensures.answer,
-      c.perform-one.ensures.plan ∙ inv.2,
+      after_more z st mid _ cs i (Transmit 0 0) l inv.0 c.perform_one.ensures.after,
+      answers_more z st mid cs old c.loop-i.answers i (Transmit 0 0) c.perform_one.result (Count 0) l m inv.0 inv.1 c.perform_one.ensures.answer,
+      c.perform_one.ensures.plan ∙ inv.2,
     )
 
 pub returns : goal.returns

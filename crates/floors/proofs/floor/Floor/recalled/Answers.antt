@@ -13,7 +13,7 @@ returns g c =
     let st = view g.A.Air.lanes f in
     let s = c.args.site in
     let t = c.table.result.now in
-    let ok = for_sound_ok st s (Ok tt) tt (sym c.in-ok-sound.ensures) in
+    let ok = for_sound_ok st s (Ok tt) tt (sym c.in_ok-sound.ensures) in
     c.recalled.ensures
-    ∙ ap (λ (k : ℕ). recall_reply (table_network t) t.site k (record_at f.records s).notebook c.args.word) c.rounds-heard.ensures
+    ∙ ap (λ (k : ℕ). recall_reply (table_network t) t.site k (record_at f.records s).notebook c.args.word) c.rounds_heard.ensures
     ∙ recalled_is st s t c.table.ensures ok.0 (flood_in c.args.word)

@@ -7,9 +7,9 @@ use Rattle.site_plans.proofs.Made.{base_few}
 use Rattle.floors.proofs.Speaks.{spoken_answer, spoken_state}
 use Rattle.floors.proofs.floor.Floor.speak.Goals as goal
 
-pub has-spoken-requires : goal.has-spoken-requires
-has-spoken-requires g c =
-    let ok = for_sound_ok (view g.A.Air.lanes c.args.self.now) c.args.site (Ok tt) tt (sym c.in-ok-sound.ensures) in
+pub has_spoken-requires : goal.has_spoken-requires
+has_spoken-requires g c =
+    let ok = for_sound_ok (view g.A.Air.lanes c.args.self.now) c.args.site (Ok tt) tt (sym c.in_ok-sound.ensures) in
     omega (arith, ok.0.0, base_few c.args.self.now.ground.base)
 
 pub returns : goal.returns
@@ -21,12 +21,12 @@ returns g c =
     let z = g.A.Air.size in
     let ls = g.A.Air.lanes f.air in
     let x = record_at f.records s in
-    let ok = for_sound_ok st s (Ok tt) tt (sym c.in-ok-sound.ensures) in
+    let ok = for_sound_ok st s (Ok tt) tt (sym c.in_ok-sound.ensures) in
     let is = c.speak.ensures.answer ∙ ap (λ (k : ℕ). put_all_reply z ls t.site (owed_by t k x)) c.round-round.ensures in
     let put = c.speak.ensures.lanes ∙ ap (λ (k : ℕ). put_all_next z ls t.site (owed_by t k x)) c.round-round.ensures in
     let few = base_few f.ground.base in
     record {
-      answer = spoken_answer z st s t c.speak.result few ok.0 (sym c.if-is-over.ensures) (sym c.if-has-spoken.ensures) c.table.ensures is;
-      after = spoken_state z st s t c.speak.result few ok.0 (sym c.if-is-over.ensures) (sym c.if-has-spoken.ensures) c.table.ensures is _ _ put c.speak.ensures.records;
+      answer = spoken_answer z st s t c.speak.result few ok.0 (sym c.if-is_over.ensures) (sym c.if-has_spoken.ensures) c.table.ensures is;
+      after = spoken_state z st s t c.speak.result few ok.0 (sym c.if-is_over.ensures) (sym c.if-has_spoken.ensures) c.table.ensures is _ _ put c.speak.ensures.records;
       plan = refl;
     }

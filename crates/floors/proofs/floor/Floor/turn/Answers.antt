@@ -3,5 +3,5 @@ use Rattle.floors.specs.Views.{view}
 use Rattle.floors.proofs.Turns.{few_turns}
 use Rattle.floors.proofs.floor.Floor.turn.Goals as goal
 
-pub overflow-add-self : goal.overflow-add-self
-overflow-add-self g c = let h = few_turns c.args.self.now.ground.base c.args.self.now.turns (sym c.if-is-over.ensures) in omega arith
+pub overflow_add-self : goal.overflow_add-self
+overflow_add-self g c = let h = few_turns c.args.self.now.ground.base c.args.self.now.turns (sym c.if-is_over.ensures) in omega arith

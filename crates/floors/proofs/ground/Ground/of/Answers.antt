@@ -7,8 +7,8 @@ use Rattle.floors.specs.Tables.{table_site, table_count, level_at, same_paths}
 use Rattle.floors.proofs.Six.{six_cases, level_same}
 use Rattle.floors.proofs.ground.Ground.of.Goals as goal
 
-pub invariant-of-result : goal.invariant-of-result
-invariant-of-result c =
+pub invariant_of-result : goal.invariant_of-result
+invariant_of-result c =
     let base : SitePlan = record { plan = c.args.plan.now } in
     let N = site_network base in
     let ts = c.table.result ∷ c.table-2.result ∷ c.table-3.result ∷ c.table-4.result ∷ c.table-5.result ∷ c.table-6.result ∷ [] in (

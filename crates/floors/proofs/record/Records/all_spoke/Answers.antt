@@ -6,5 +6,5 @@ use Rattle.floors.proofs.record.Records.all_spoke.Goals as goal
 pub loop-site-preserved : goal.loop-site-preserved
 loop-site-preserved c = grind (arith, nat_tests, all_pass)
 
-pub returns-then-not-has-spoken : goal.returns-then-not-has-spoken
-returns-then-not-has-spoken c = search (rules, all_fail)
+pub returns-then-not-has_spoken : goal.returns-then-not-has_spoken
+returns-then-not-has_spoken c = search (rules, all_fail)

@@ -10,7 +10,7 @@ use Rattle.floors.specs.Views.{seen, sound_of, state_of}
 use Rattle.floors.proofs.Seen.{seen_at}
 use Rattle.floors.proofs.Turned.{Done, done_none, done_set, done_same, turned_sound, turned_other}
 use Rattle.floors.proofs.record.Records.turn.Goals as goal
-use Rattle.floors.proofs.record.Records.turn.Goals.{then-is-sound, else-is-sound}
+use Rattle.floors.proofs.record.Records.turn.Goals.{then-is_sound, else-is_sound}
 
 pub loop-site-init : goal.loop-site-init
 loop-site-init g c =
@@ -29,17 +29,17 @@ loop-site-preserved g c =
     let old = map seen c.args.self.now.sites in
     let F = turned_site st in
     let inv = c.loop-site.invariant in
-    elim c.if-is-sound.branch [
-      | then-is-sound w ↦
+    elim c.if-is_sound.branch [
+      | then-is_sound w ↦
           let lm : i < length (map seen rs) = omega (arith, inv.six) in
           let l : i < length rs = omega (arith, length-map rs seen) in
           let y = w.turn.new.self in
           let was : seen (get_or rs i w.index-self-site.result) ≡ site st i = sym (seen_at rs i w.index-self-site.result l) ∙ inv.still i (omega arith) in
-          let sound : is_sound N c.args.rogues.bits i ≡ true = ap (λ (k : ℕ). sound_of k c.args.rogues.bits i) (sym c.site-count-n.ensures.value) ∙ sym w.if-is-sound.ensures in
+          let sound : is_sound N c.args.rogues.bits i ≡ true = ap (λ (k : ℕ). sound_of k c.args.rogues.bits i) (sym c.site_count-n.ensures.value) ∙ sym w.if-is_sound.ensures in
           let is : seen y ≡ F i = w.turn.ensures ∙ ap (turned_by N ls c.args.turns i) was ∙ turned_sound st i sound in
           subst (Done F old (i + 1)) (sym (ap (λ (x : Records). map seen x.sites) w.self-is ∙ map-set seen rs i y)) (done_set F old (map seen rs) i (seen y) lm inv is)
-      | else-is-sound w ↦
-          let other : is_sound N c.args.rogues.bits i ≡ false = ap (λ (k : ℕ). sound_of k c.args.rogues.bits i) (sym c.site-count-n.ensures.value) ∙ sym w.if-is-sound.ensures in
+      | else-is_sound w ↦
+          let other : is_sound N c.args.rogues.bits i ≡ false = ap (λ (k : ℕ). sound_of k c.args.rogues.bits i) (sym c.site_count-n.ensures.value) ∙ sym w.if-is_sound.ensures in
           subst (Done F old (i + 1)) (sym (ap (λ (x : Records). map seen x.sites) w.self-is)) (done_same F old (map seen rs) i inv (turned_other st i other))
     ]
 

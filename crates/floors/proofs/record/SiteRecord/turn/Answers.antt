@@ -10,8 +10,8 @@ use Rattle.floors.proofs.record.SiteRecord.turn.Goals as goal
 pub returns-then-round-rounds : goal.returns-then-round-rounds
 returns-then-round-rounds g c =
     let N = site_network c.args.ground.now.base in
-    let n = c.site-count.result in
-    let e = c.site-count.ensures.value in
+    let n = c.site_count.result in
+    let e = c.site_count.ensures.value in
     let turns = c.args.turns in
     let t = c.table-table.result.now in
     let F = c.suspect.result.bits in
@@ -22,8 +22,8 @@ returns-then-round-rounds g c =
 pub returns-else-round-rounds : goal.returns-else-round-rounds
 returns-else-round-rounds g c =
     let N = site_network c.args.ground.now.base in
-    let n = c.site-count.result in
-    let e = c.site-count.ensures.value in
+    let n = c.site_count.result in
+    let e = c.site_count.ensures.value in
     let turns = c.args.turns in
     c.hear.ensures
     ∙ turned_else N c.args.site c.table-table.result.now c.table-table.ensures c.requires (g.A.Air.lanes c.args.air.now) turns (seen c.args.self.now) (turns % (n - 1) + 1)

@@ -3,4 +3,4 @@ use Rattle.plans.proofs.plan.Plan.are_joined.Goals as goal
 
 pub returns : goal.returns
 unfolding network
-returns c = c.has-edge.ensures
+returns c = c.has_edge.ensures

@@ -4,7 +4,7 @@ use Rattle.plans.specs.Sheets.{complete?}
 use Rattle.plans.proofs.Examples.{sheet_examples}
 use Rattle.plans.proofs.plan.Plan.built_in.Goals as goal
 
-pub invariant-of-result : goal.invariant-of-result
-invariant-of-result c =
-    let same : take 6 c.copied.result ≡ pair = subst (λ (w : List ℕ). take (length w) c.copied.result ≡ w) c.pair-words.ensures c.copied.ensures.front in
+pub invariant_of-result : goal.invariant_of-result
+invariant_of-result c =
+    let same : take 6 c.copied.result ≡ pair = subst (λ (w : List ℕ). take (length w) c.copied.result ≡ w) c.pair_words.ensures c.copied.ensures.front in
     (c.copied.ensures.long, (omega arith, (ap complete? same ∙ ap is_ok sheet_examples.pair_passes, tt)))

@@ -3,4 +3,4 @@ use Rattle.plans.proofs.plan.Plan.is_suspect.Goals as goal
 
 pub returns : goal.returns
 unfolding network
-returns c = c.has-suspect.ensures
+returns c = c.has_suspect.ensures

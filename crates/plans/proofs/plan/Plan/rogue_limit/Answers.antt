@@ -5,4 +5,4 @@ use Rattle.plans.proofs.plan.Plan.rogue_limit.Goals as goal
 
 pub returns : goal.returns
 unfolding network
-returns c = record { value = c.told-rogues.ensures; most = omega (arith, plan_rogues c.args.self.now) }
+returns c = record { value = c.told_rogues.ensures; most = omega (arith, plan_rogues c.args.self.now) }

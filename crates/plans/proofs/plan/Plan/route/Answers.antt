@@ -9,5 +9,5 @@ unfolding network
 returns c =
     let p = c.args.self.now in
     let F = c.args.set.bits in
-    let e : sites_of c.path-of-route.result ≡ (network p).route F c.args.from c.args.to = c.path-of-route.ensures in
+    let e : sites_of c.path_of_route.result ≡ (network p).route F c.args.from c.args.to = c.path_of_route.ensures in
     record { value = e; way = subst (λ (l : List ℕ). Routes (network p) F c.args.from c.args.to l) (sym e) (plan_route p F c.args.from c.args.to) }

@@ -5,4 +5,4 @@ use Rattle.plans.proofs.plan.Plan.site_count.Goals as goal
 
 pub returns : goal.returns
 unfolding network
-returns c = let r = plan_sites c.args.self.now in record { value = c.told-sites.ensures; least = omega (arith, r.0); most = omega (arith, r.1) }
+returns c = let r = plan_sites c.args.self.now in record { value = c.told_sites.ensures; least = omega (arith, r.0); most = omega (arith, r.1) }

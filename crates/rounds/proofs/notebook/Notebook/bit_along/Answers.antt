@@ -11,6 +11,6 @@ pub returns-in-Ok : goal.returns-in-Ok
 returns-in-Ok c =
     let t = c.args.table.now in
     let book = c.args.self.now.words in
-    c.told-front.ensures
+    c.told_front.ensures
     ∙ ap (λ (x : Path). told_by (table_network t) t.site book (front (sites_of x))) c.path.ensures
     ∙ ap (λ (x : List ℕ). told_by (table_network t) t.site book (front x)) (sites_read c.args.word (meaning_of c.in-Ok.path) c.in-Ok.ensures.answer)

@@ -10,14 +10,14 @@ pub returns : goal.returns
 returns c =
     let t = c.args.table.now in
     let book = c.args.self.now.words in
-    ap (λ (b : Bool). Some b) c.bit-at.ensures
-    ∙ ap (λ (o : Option ℕ). option_map (bit_at book) o) c.in-ok-place.ensures
+    ap (λ (b : Bool). Some b) c.bit_at.ensures
+    ∙ ap (λ (o : Option ℕ). option_map (bit_at book) o) c.in_ok-place.ensures
     ∙ sym (noted_place (table_network t) t.site c.args.rounds book (sites_of c.args.path.now))
 
-pub returns-in-err-place : goal.returns-in-err-place
-returns-in-err-place c =
+pub returns-in_err-place : goal.returns-in_err-place
+returns-in_err-place c =
     let t = c.args.table.now in
     let book = c.args.self.now.words in
     rw c.from-residual.ensures
-    (ap (λ (o : Option ℕ). option_map (bit_at book) o) c.in-err-place.ensures
+    (ap (λ (o : Option ℕ). option_map (bit_at book) o) c.in_err-place.ensures
     ∙ sym (noted_place (table_network t) t.site c.args.rounds book (sites_of c.args.path.now)))

@@ -15,11 +15,11 @@ loop-i-init g c =
     let ls : Lanes = g.A.Air.lanes c.args.air.now in
     let t = c.args.table.now in
     let ws : List ℕ = round_words (table_network t) t.site c.args.k c.args.self.now.words in
-    let z : c.first-of-round-start.result - c.first-of-round-start.result ≡ 0 = omega arith in
+    let z : c.first_of_round-start.result - c.first_of_round-start.result ≡ 0 = omega arith in
     sym (ap (λ (j : ℕ). added ls t.site (take j ws)) z ∙ added_none ls t.site)
 
-pub with-bit-requires : goal.with-bit-requires
-with-bit-requires g c = (hearable c.args.table.now c.args.k c.up-to-paths.result.now c.loop-i.i c.up-to-paths.ensures (omega arith)).low_word
+pub with_bit-requires : goal.with_bit-requires
+with_bit-requires g c = (hearable c.args.table.now c.args.k c.up_to-paths.result.now c.loop-i.i c.up_to-paths.ensures (omega arith)).low_word
 
 pub loop-i-preserved : goal.loop-i-preserved
 loop-i-preserved g c =
@@ -28,17 +28,17 @@ loop-i-preserved g c =
     let t = c.args.table.now in
     let book : List ℕ = c.args.self.now.words in
     let ws : List ℕ = round_words (table_network t) t.site c.args.k book in
-    let start : ℕ = c.first-of-round-start.result in
-    let es = c.up-to-paths.result.now in
+    let start : ℕ = c.first_of_round-start.result in
+    let es = c.up_to-paths.result.now in
     let i : ℕ = c.loop-i.i in
     let long = round_length t c.args.k book in
-    let all : length es ≡ length (table_paths t c.args.k) = ap length c.up-to-paths.ensures ∙ length-map (table_paths t c.args.k) entry_of in
+    let all : length es ≡ length (table_paths t c.args.k) = ap length c.up_to-paths.ensures ∙ length-map (table_paths t c.args.k) entry_of in
     let from : start ≤ i = omega (arith, c.loop-i.auto.i) in
-    let inside : i - start < length ws = omega (arith, c.first-of-round-start.ensures.value) in
+    let inside : i - start < length ws = omega (arith, c.first_of_round-start.ensures.value) in
     let e = get_or es i no_entry in
     let word : c.with_bit.result ≡ get_or ws (i - start) 0 =
-    c.with_bit.ensures ∙ ap (λ (b : Bool). cond b (e.word + 1) e.word) c.bit-at.ensures
-    ∙ sym (round_word t c.args.k book es start i c.up-to-paths.ensures c.first-of-round-start.ensures.value from (omega arith)) in
+    c.with_bit.ensures ∙ ap (λ (b : Bool). cond b (e.word + 1) e.word) c.bit_at.ensures
+    ∙ sym (round_word t c.args.k book es start i c.up_to-paths.ensures c.first_of_round-start.ensures.value from (omega arith)) in
     let more : (i - start) + 1 ≡ (i + 1) - start = omega arith in
     c.put.ensures.after
     ∙ ap (λ (b : Lanes). put_next size b c.site-site.result c.with_bit.result) c.loop-i.invariant
@@ -52,6 +52,6 @@ returns g c =
     let ls : Lanes = g.A.Air.lanes c.args.air.now in
     let t = c.args.table.now in
     let ws : List ℕ = round_words (table_network t) t.site c.args.k c.args.self.now.words in
-    let all : length c.up-to-paths.result.now ≡ length (table_paths t c.args.k) = ap length c.up-to-paths.ensures ∙ length-map (table_paths t c.args.k) entry_of in
+    let all : length c.up_to-paths.result.now ≡ length (table_paths t c.args.k) = ap length c.up_to-paths.ensures ∙ length-map (table_paths t c.args.k) entry_of in
     let long = round_length t c.args.k c.args.self.now.words in
-    c.loop-i.invariant ∙ ap (added ls t.site) (take_all (c.loop-i.i - c.first-of-round-start.result) ws (omega (arith, c.first-of-round-start.ensures.value)))
+    c.loop-i.invariant ∙ ap (added ls t.site) (take_all (c.loop-i.i - c.first_of_round-start.result) ws (omega (arith, c.first_of_round-start.ensures.value)))

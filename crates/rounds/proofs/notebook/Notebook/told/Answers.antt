@@ -10,5 +10,5 @@ returns c =
     let t = c.args.table.now in
     let p = sites_of c.args.path.now in
     let book = c.args.self.now.words in
-    let r : c.saturating-sub-rounds.result ≡ t.wiring.n - 1 = omega (arith, c.saturating-sub-rounds.ensures, c.site-count.ensures.value) in
+    let r : c.saturating_sub-rounds.result ≡ t.wiring.n - 1 = omega (arith, c.saturating_sub-rounds.ensures, c.site_count.ensures.value) in
     c.or_one.ensures ∙ ap or_one (c.noted.ensures ∙ ap (λ x. noted (table_network t) t.site x book p) r)

@@ -8,19 +8,19 @@ use Rattle.notebooks.specs.Notebooks.{told_by}
 use Rattle.tables.specs.Tables.{table_network}
 use Rattle.tables.proofs.MaskSums.{mask_add, mask_skip, mask_none}
 use Rattle.rounds.proofs.notebook.Notebook.zeros.Goals as goal
-use Rattle.rounds.proofs.notebook.Notebook.zeros.Goals.{then-not-bit-from, else-not-bit-from}
+use Rattle.rounds.proofs.notebook.Notebook.zeros.Goals.{then-not-bit_from, else-not-bit_from}
 
 pub loop-from-init : goal.loop-from-init
 loop-from-init g c =
     let t = c.args.table.now in
     mask_none (λ u. not (cond (eqb u t.site) c.args.own (told_by (table_network t) t.site c.args.self.now.words (front ((g.P.Routing.network c.args.plan.now).route c.args.set.bits u t.site)))))
 
-pub overflow-add-bits : goal.overflow-add-bits
-overflow-add-bits g c =
+pub overflow_add-bits : goal.overflow_add-bits
+overflow_add-bits g c =
     let t = c.args.table.now in
     let G : ℕ → Bool = λ u. not (cond (eqb u t.site) c.args.own (told_by (table_network t) t.site c.args.self.now.words (front ((g.P.Routing.network c.args.plan.now).route c.args.set.bits u t.site)))) in
     let u : ℕ = c.loop-from.from in
-    let lt : u < 6 = omega (arith, c.site-count-from-end.ensures, g.met.P.Routing.few c.args.plan.now) in
+    let lt : u < 6 = omega (arith, c.site_count-from-end.ensures, g.met.P.Routing.few c.args.plan.now) in
     let le : 2 ^ u ≤ 2 ^ 5 = pow_mono {i = u} {j = 5} (omega arith) in
     omega (arith, one_shl u 32 (omega arith), mask_of_below u G, c.loop-from.invariant)
 
@@ -29,10 +29,10 @@ loop-from-preserved g c =
     let t = c.args.table.now in
     let G : ℕ → Bool = λ u. not (cond (eqb u t.site) c.args.own (told_by (table_network t) t.site c.args.self.now.words (front ((g.P.Routing.network c.args.plan.now).route c.args.set.bits u t.site)))) in
     let u : ℕ = c.loop-from.from in
-    let lt : u < 6 = omega (arith, c.site-count-from-end.ensures, g.met.P.Routing.few c.args.plan.now) in
-    elim c.if-not-bit-from.branch [
-      | then-not-bit-from w ↦ w.bits-is ∙ ap (λ x. c.loop-from.bits + x) (one_shl u 32 (omega arith)) ∙ ap (λ x. x + 2 ^ u) c.loop-from.invariant ∙ mask_add u G (ap not (sym w.if-not-bit-from.ensures))
-      | else-not-bit-from w ↦ w.bits-is ∙ c.loop-from.invariant ∙ mask_skip u G (ap not (sym w.if-not-bit-from.ensures))
+    let lt : u < 6 = omega (arith, c.site_count-from-end.ensures, g.met.P.Routing.few c.args.plan.now) in
+    elim c.if-not-bit_from.branch [
+      | then-not-bit_from w ↦ w.bits-is ∙ ap (λ x. c.loop-from.bits + x) (one_shl u 32 (omega arith)) ∙ ap (λ x. x + 2 ^ u) c.loop-from.invariant ∙ mask_add u G (ap not (sym w.if-not-bit_from.ensures))
+      | else-not-bit_from w ↦ w.bits-is ∙ c.loop-from.invariant ∙ mask_skip u G (ap not (sym w.if-not-bit_from.ensures))
     ]
 
 pub returns : goal.returns
@@ -40,5 +40,5 @@ unfolding zeros
 returns g c =
     let t = c.args.table.now in
     let G : ℕ → Bool = λ u. not (cond (eqb u t.site) c.args.own (told_by (table_network t) t.site c.args.self.now.words (front ((g.P.Routing.network c.args.plan.now).route c.args.set.bits u t.site)))) in
-    let e : c.loop-from.from ≡ (g.P.Routing.network c.args.plan.now).n = omega (arith, c.site-count-from-end.ensures) in
+    let e : c.loop-from.from ≡ (g.P.Routing.network c.args.plan.now).n = omega (arith, c.site_count-from-end.ensures) in
     c.loop-from.invariant ∙ ap (λ x. mask_of x G) e

@@ -10,7 +10,7 @@ returns g c =
     let e = seen_round c.args.self.now in
     let ls = g.A.Air.lanes c.args.air.now in
     let book = c.args.notebook.now.words in
-    let same = sym c.has-size.ensures ∙ c.if-not-has-size.false in
+    let same = sym c.has_size.ensures ∙ c.if-not-has_size.false in
     record {
       answer = c.put.ensures.answer ∙ spoken_reply g.A.Air.size N ls e book c.table.result c.table.ensures same c.args.self.now.here;
       after = c.put.ensures.after ∙ spoken_next g.A.Air.size N ls e book c.table.result c.table.ensures same c.args.self.now.here;

@@ -9,7 +9,7 @@ pub returns : goal.returns
 returns g c =
     let N = network c.args.plan.now in
     let e = c.args.self in
-    let same = sym c.has-size.ensures ∙ c.if-not-has-size.false in (
+    let same = sym c.has_size.ensures ∙ c.if-not-has_size.false in (
       same,
       c.on.ensures,
       c.hear.ensures

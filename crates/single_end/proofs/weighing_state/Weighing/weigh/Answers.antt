@@ -10,7 +10,7 @@ pub returns : goal.returns
 returns c =
     let N = network c.args.plan.now in
     let w = c.args.self in
-    let same = sym c.has-size.ensures ∙ c.if-not-has-size.false in
+    let same = sym c.has_size.ensures ∙ c.if-not-has_size.false in
     let bit = c.weigh-bit.ensures
     ∙ weighed_is N w.site c.table.result c.table.ensures (still_here N w.site w.n w.f same w.here) c.suspect.result.bits w.phase w.bit c.args.notebook.now.words c.suspect.ensures in (
       same,

@@ -11,7 +11,7 @@ pub returns-then-place-count : goal.returns-then-place-count
 returns-then-place-count c =
     let t = c.args.self.now in
     let lt : c.args.place < length (table_paths t 5) = omega (arith, c.count.ensures.value) in
-    ap (λ (w : ℕ). Some w) c.word-of.ensures ∙ ap (λ (e : ExpectedPath). Some e.word) (entry_at t c.args.place lt) ∙ sym (ap (option_map path_word) (slice_get-get_or (table_paths t 5) c.args.place [] lt))
+    ap (λ (w : ℕ). Some w) c.word_of.ensures ∙ ap (λ (e : ExpectedPath). Some e.word) (entry_at t c.args.place lt) ∙ sym (ap (option_map path_word) (slice_get-get_or (table_paths t 5) c.args.place [] lt))
 
 pub returns-else-place-count : goal.returns-else-place-count
 returns-else-place-count c =

@@ -5,7 +5,7 @@ use Rattle.words.proofs.path.PathWord.read.Goals as goal
 
 pub returns : goal.returns
 returns c =
-    let q = c.in-ok-path.ensures in
-    let p = c.in-ok-path.path in
-    let r = read_ok c.args.word c.in-Some.kind p.sites p.len (sym c.in-Some.ensures) (search rules) (omega arith) (q.1 ∙ c.sites-in.ensures) q.2 (and_from _ _ p.lawful p.padded) in
+    let q = c.in_ok-path.ensures in
+    let p = c.in_ok-path.path in
+    let r = read_ok c.args.word c.in-Some.kind p.sites p.len (sym c.in-Some.ensures) (search rules) (omega arith) (q.1 ∙ c.sites_in.ensures) q.2 (and_from _ _ p.lawful p.padded) in
     record { answer = r; back = word_back c.args.word _ r; alone = same_word c.args.word _ r; examples = record { path_one = refl; no_bit = refl } }
