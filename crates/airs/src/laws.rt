@@ -6,15 +6,15 @@ use super::air::Air;
 
 /// Whether some words are exactly a site's lane, read by `count` and `at`.
 pub fn is_lane<A: Air>(air: &A, site: u8, words: &[u32]) -> bool
-    ensures { Decides result (words.now ≡ lane (lanes air.now) site) }
+    ensures { Decides result (words.now ≡ lane (A.lanes air.now) site) }
 {
     air.count(site) == words.len() && agrees(air, site, words)
 }
 
 /// Whether a lane has the same word as a list of its length at each position.
 fn agrees<A: Air>(air: &A, site: u8, words: &[u32]) -> bool
-    requires { length words.now ≡ count_of (lanes air.now) site }
-    ensures { Decides result (words.now ≡ lane (lanes air.now) site) }
+    requires { length words.now ≡ count_of (A.lanes air.now) site }
+    ensures { Decides result (words.now ≡ lane (A.lanes air.now) site) }
 {
     for k in 0..words.len() {
         if let Some(word) = air.at(site, k) {

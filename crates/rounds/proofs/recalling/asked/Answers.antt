@@ -7,7 +7,7 @@ use Rattle.rounds.proofs.recalling.asked.Goals as goal
 
 pub returns-in_err-flood : goal.returns-in_err-flood
 returns-in_err-flood c =
-    let p = err_from_is_err_and c.from-residual.result c.from-residual.ensures.1 in
+    let p = err_from_is_err_and c.from_residual.result c.from_residual.ensures.1 in
     let a = c.in_err-flood.ensures.answer in
     rw (p.1, p.2) (asked_none c.args.word a.0, a.1)
 

@@ -10,7 +10,7 @@ use Rattle.sheets.proofs.rows.check_paths.Goals as goal
 pub returns-in_err-check_path : goal.returns-in_err-check_path
 returns-in_err-check_path c =
     let ws = c.args.words.now in
-    let p = err_from_is_err_and c.from-residual.result c.from-residual.ensures.1 in
+    let p = err_from_is_err_and c.from_residual.result c.from_residual.ensures.1 in
     rw (p.1, p.2) (told_stop Path (bad_path ws) c.loop-i.i (length ws) _ (omega arith) c.in_err-check_path.ensures ∙ ap (told Path) c.loop-i.invariant)
 
 pub loop-i-preserved : goal.loop-i-preserved

@@ -35,28 +35,16 @@ invariant_of-self c =
     let p = pushed t s w below room six c.pair.result c.pair.ensures in
     let n : t.len ≤ length t.run = omega arith in
     let r : get_or t.counts s 0 < length (get_or t.places s []) = omega (arith, t.wide s below) in
-    let row = set (get_or t.places s []) (get_or t.counts s 0) t.len in (
-      length-set t.run t.len c.pair.result ∙ t.long,
-      (
-        omega (arith, f),
-        (
-          sum_more t.counts s l ∙ ap (λ x. x + 1) t.whole,
-          (
-            set_keeps (λ x. length x ≡ 160) 6 t.places s row [] rows (length-set (get_or t.places s []) (get_or t.counts s 0) t.len ∙ t.wide s below) t.wide,
-            (
-              set_keeps (λ x. x ≤ 160) 6 t.counts s (get_or t.counts s 0 + 1) 0 six (omega arith) t.within,
-              (
-                subst Sited (sym p) (sited_push (strip_run t) s w below t.sited),
-                (
-                  subst (Filed (set t.counts s (get_or t.counts s 0 + 1)) (set t.places s row)) (sym p) (filed_push t.counts t.places (strip_run t) s w t.len six rows below r (length-take-le t.len t.run n) t.filed),
-                  tt,
-                ),
-              ),
-            ),
-          ),
-        ),
-      ),
-    )
+    let row = set (get_or t.places s []) (get_or t.counts s 0) t.len in
+    record {
+      long = length-set t.run t.len c.pair.result ∙ t.long;
+      fits = omega (arith, f);
+      whole = sum_more t.counts s l ∙ ap (λ x. x + 1) t.whole;
+      wide = set_keeps (λ x. length x ≡ 160) 6 t.places s row [] rows (length-set (get_or t.places s []) (get_or t.counts s 0) t.len ∙ t.wide s below) t.wide;
+      within = set_keeps (λ x. x ≤ 160) 6 t.counts s (get_or t.counts s 0 + 1) 0 six (omega arith) t.within;
+      sited = subst Sited (sym p) (sited_push (strip_run t) s w below t.sited);
+      filed = subst (Filed (set t.counts s (get_or t.counts s 0 + 1)) (set t.places s row)) (sym p) (filed_push t.counts t.places (strip_run t) s w t.len six rows below r (length-take-le t.len t.run n) t.filed);
+    }
 
 pub returns : goal.returns
 returns c =

@@ -18,6 +18,6 @@ pub returns-in_err-place : goal.returns-in_err-place
 returns-in_err-place c =
     let t = c.args.table.now in
     let book = c.args.self.now.words in
-    rw c.from-residual.ensures
+    rw c.from_residual.ensures
     (ap (λ (o : Option ℕ). option_map (bit_at book) o) c.in_err-place.ensures
     ∙ sym (noted_place (table_network t) t.site c.args.rounds book (sites_of c.args.path.now)))

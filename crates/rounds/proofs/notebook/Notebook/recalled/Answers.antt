@@ -13,6 +13,6 @@ returns c =
 pub returns-in_err-path : goal.returns-in_err-path
 returns-in_err-path c =
     let t = c.args.table.now in
-    let q = err_from_is_err_and c.from-residual.result c.from-residual.ensures.1 in
+    let q = err_from_is_err_and c.from_residual.result c.from_residual.ensures.1 in
     let a = c.in_err-path.ensures in
     rw (q.1, q.2, a.1) (ap (λ (o : Option (List ℕ)). recall_of (table_network t) t.site c.args.rounds c.args.self.now.words o) (sym a.0))
