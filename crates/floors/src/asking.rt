@@ -18,7 +18,7 @@ fn are_over(phases: usize, turns: usize, rounds: usize) -> bool
 impl<A: Air> Floor<A> {
     // How many sites there are.
     pub(crate) fn site_count(&self) -> u8
-        ensures value { result ≡ (view lanes self.now).net.n }
+        ensures value { result ≡ (view A.lanes self.now).net.n }
         ensures least { 2 ≤ result }
         ensures most { result ≤ 6 }
     {
@@ -27,7 +27,7 @@ impl<A: Air> Floor<A> {
 
     /// Whether the last phase has ended.
     pub fn is_over(&self) -> bool
-        ensures { result ≡ over (view lanes self.now) }
+        ensures { result ≡ over (view A.lanes self.now) }
     {
         let rounds = self.site_count() as usize - 1;
         are_over(self.ground.base.phases(), self.turns, rounds)
@@ -35,21 +35,21 @@ impl<A: Air> Floor<A> {
 
     /// The phase, counted from 0, that the next turn is in.
     pub fn phase(&self) -> usize
-        ensures { result ≡ phase (view lanes self.now) }
+        ensures { result ≡ phase (view A.lanes self.now) }
     {
         self.turns / (self.site_count() as usize - 1)
     }
 
     /// The round of the phase, counted from 1, that the next turn is in.
     pub fn round(&self) -> usize
-        ensures { result ≡ round (view lanes self.now) }
+        ensures { result ≡ round (view A.lanes self.now) }
     {
         self.turns % (self.site_count() as usize - 1) + 1
     }
 
     // 21 for a site not below n, 23 for a rogue.
     pub(crate) fn sound(&self, site: u8) -> Result<(), Refusal>
-        ensures { result ≡ for_sound (view lanes self.now) site (Ok tt) }
+        ensures { result ≡ for_sound (view A.lanes self.now) site (Ok tt) }
     {
         if site >= self.site_count() {
             return Err(Refusal::NoSite);
@@ -62,7 +62,7 @@ impl<A: Air> Floor<A> {
 
     /// The bit that a sound site holds: 21 for a site not below n, 23 for a rogue.
     pub fn held(&self, site: u8) -> Result<bool, Refusal>
-        ensures { result ≡ held_reply (view lanes self.now) site }
+        ensures { result ≡ held_reply (view A.lanes self.now) site }
     {
         self.sound(site)?;
         Ok(self.records.bit(site))
@@ -70,7 +70,7 @@ impl<A: Air> Floor<A> {
 
     /// The bit that a sound site holds after the last phase: 21, 23, and 28 before that phase has ended.
     pub fn decision(&self, site: u8) -> Result<bool, Refusal>
-        ensures { result ≡ decision_reply (view lanes self.now) site }
+        ensures { result ≡ decision_reply (view A.lanes self.now) site }
     {
         let held = self.held(site)?;
         if !self.is_over() {

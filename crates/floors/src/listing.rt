@@ -14,10 +14,10 @@ impl<A: Air> Floor<A> {
     // Performs the first of some calls.
     fn perform_first(&mut self, count: usize, calls: &[Call], answers: &mut [Answer])
         requires { (count ≤ length calls.now) × (count ≤ length answers.old) }
-        ensures answers { answers.new ≡ answers_to size (view lanes self.old) (take count calls.now) ++ drop count answers.old }
-        ensures after { view lanes self.new ≡ left_by size (view lanes self.old) (take count calls.now) }
+        ensures answers { answers.new ≡ answers_to A.size (view A.lanes self.old) (take count calls.now) ++ drop count answers.old }
+        ensures after { view A.lanes self.new ≡ left_by A.size (view A.lanes self.old) (take count calls.now) }
         ensures plan { plan_sheet self.new ≡ plan_sheet self.old }
-        ensures guarantee { Performed size (view lanes self.old) (take count calls.now) (take count answers.new) (view lanes self.new) }
+        ensures guarantee { Performed A.size (view A.lanes self.old) (take count calls.now) (take count answers.new) (view A.lanes self.new) }
     {
         for i in 0..count {
             answers[i] = self.perform_one(calls[i]);
@@ -28,10 +28,10 @@ impl<A: Air> Floor<A> {
     /// calls, the guarantee over lists of calls holds of them, and of those since the floor was opened with them.
     pub fn perform(&mut self, calls: &[Call], answers: &mut [Answer]) -> usize
         ensures count { result ≡ min (length calls.now) (length answers.old) }
-        ensures answers { answers.new ≡ answers_to size (view lanes self.old) (take result calls.now) ++ drop result answers.old }
-        ensures after { view lanes self.new ≡ left_by size (view lanes self.old) (take result calls.now) }
+        ensures answers { answers.new ≡ answers_to A.size (view A.lanes self.old) (take result calls.now) ++ drop result answers.old }
+        ensures after { view A.lanes self.new ≡ left_by A.size (view A.lanes self.old) (take result calls.now) }
         ensures plan { plan_sheet self.new ≡ plan_sheet self.old }
-        ensures guarantee { Performed size (view lanes self.old) (take result calls.now) (take result answers.new) (view lanes self.new) }
+        ensures guarantee { Performed A.size (view A.lanes self.old) (take result calls.now) (take result answers.new) (view A.lanes self.new) }
     {
         let count = calls.len().min(answers.len());
         self.perform_first(count, calls, answers);
@@ -49,7 +49,7 @@ impl<A: Air> Floor<A> {
         calls: &[Call],
         answers: &mut [Answer],
     ) -> Result<usize, Refusal>
-        ensures { OpensAndRuns size (network plan.now) rogues.bits bits.bits calls.now answers.old answers.new (view lanes self.old) (view lanes self.new) result }
+        ensures { OpensAndRuns A.size (network plan.now) rogues.bits bits.bits calls.now answers.old answers.new (view A.lanes self.old) (view A.lanes self.new) result }
     {
         self.open(plan, rogues, bits)?;
         Ok(self.perform(calls, answers))

@@ -22,14 +22,14 @@ impl Records {
 impl<A: Air> Floor<A> {
     /// The accepted turns since the floor was opened.
     pub fn turns(&self) -> usize
-        ensures { result ≡ (view lanes self.now).turns }
+        ensures { result ≡ (view A.lanes self.now).turns }
     {
         self.turns
     }
 
     /// The set of the rogues.
     pub fn rogues(&self) -> SiteMask
-        ensures { result.bits ≡ (view lanes self.now).rogues }
+        ensures { result.bits ≡ (view A.lanes self.now).rogues }
     {
         self.rogues
     }
@@ -37,14 +37,14 @@ impl<A: Air> Floor<A> {
     /// The plan that the floor was opened on.
     pub fn plan(&self) -> &Plan
         ensures sheet { sheet result.now ≡ plan_sheet self.now }
-        ensures network { network result.now ≡ (view lanes self.now).net }
+        ensures network { network result.now ≡ (view A.lanes self.now).net }
     {
         &self.ground.base.plan
     }
 
     /// The air.
     pub fn air(&self) -> &A
-        ensures { lanes result.now ≡ (view lanes self.now).lanes }
+        ensures { A.lanes result.now ≡ (view A.lanes self.now).lanes }
     {
         &self.air
     }

@@ -15,7 +15,7 @@ use sites::{Refusal, SiteMask};
 impl<A: Air> Floor<A> {
     /// A new floor over an air: opened on the built-in plan, with no rogues and all bits 0.
     pub fn new(air: A) -> Floor<A>
-        ensures { view lanes result ≡ opened built_in 0 0 }
+        ensures { view A.lanes result ≡ opened built_in 0 0 }
     {
         let mut air = air;
         air.clear();
@@ -32,7 +32,7 @@ impl<A: Air> Floor<A> {
 
     // Starts phase 0, round 1.
     fn start(&mut self, plan: &Plan, rogues: SiteMask, bits: SiteMask)
-        ensures after { view lanes self.new ≡ opened (network plan.now) rogues.bits bits.bits }
+        ensures after { view A.lanes self.new ≡ opened (network plan.now) rogues.bits bits.bits }
         ensures plan { plan_sheet self.new ≡ sheet plan.now }
     {
         self.ground = Ground::of(plan);
@@ -47,7 +47,7 @@ impl<A: Air> Floor<A> {
     /// rogues; then all stays as it was.
     pub fn open(&mut self, plan: &Plan, rogues: SiteMask, bits: SiteMask) -> Result<(), Refusal>
         ensures answer { result ≡ open_reply (network plan.now) rogues.bits bits.bits }
-        ensures after { view lanes self.new ≡ open_next (network plan.now) rogues.bits bits.bits (view lanes self.old) }
+        ensures after { view A.lanes self.new ≡ open_next (network plan.now) rogues.bits bits.bits (view A.lanes self.old) }
         ensures plan { plan_sheet self.new ≡ kept result (sheet plan.now) (plan_sheet self.old) }
     {
         let n = plan.site_count();

@@ -30,8 +30,8 @@ fn told(res: Result<bool, Refusal>) -> Answer
 impl<A: Air> Floor<A> {
     /// Performs one call.
     pub fn perform_one(&mut self, call: Call) -> Answer
-        ensures answer { result ≡ reply size (view lanes self.old) call }
-        ensures after { view lanes self.new ≡ next size (view lanes self.old) call }
+        ensures answer { result ≡ reply A.size (view A.lanes self.old) call }
+        ensures after { view A.lanes self.new ≡ next A.size (view A.lanes self.old) call }
         ensures plan { plan_sheet self.new ≡ plan_sheet self.old }
     {
         match call {

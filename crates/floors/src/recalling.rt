@@ -32,7 +32,7 @@ impl Records {
 impl<A: Air> Floor<A> {
     // How many rounds of a phase the notebooks are about.
     fn rounds_heard(&self) -> usize
-        ensures { result ≡ rounds_noted (view lanes self.now).net (view lanes self.now).turns }
+        ensures { result ≡ rounds_noted (view A.lanes self.now).net (view A.lanes self.now).turns }
     {
         let rounds = self.site_count() as usize - 1;
         if self.turns == 0 {
@@ -55,7 +55,7 @@ impl<A: Air> Floor<A> {
     /// not a lawful one of that kind and bit, with 21 for a site not below n, 23 for a rogue, and 29 where the path is not
     /// expected there, or not yet heard.
     pub fn recalled(&self, site: u8, word: u32) -> Result<bool, Refusal>
-        ensures { result ≡ recalled_reply (view lanes self.now) site word }
+        ensures { result ≡ recalled_reply (view A.lanes self.now) site word }
     {
         self.asks(word)?;
         self.sound(site)?;

@@ -18,8 +18,8 @@ impl SiteRecord {
         table: &PathTable,
         round: usize,
     ) -> Result<usize, Refusal>
-        ensures answer { result ≡ put_all_reply size (lanes air.old) table.now.site (owed_by table.now round (seen self.old)) }
-        ensures lanes { lanes air.new ≡ put_all_next size (lanes air.old) table.now.site (owed_by table.now round (seen self.old)) }
+        ensures answer { result ≡ put_all_reply A.size (A.lanes air.old) table.now.site (owed_by table.now round (seen self.old)) }
+        ensures lanes { A.lanes air.new ≡ put_all_next A.size (A.lanes air.old) table.now.site (owed_by table.now round (seen self.old)) }
         ensures record { seen self.new ≡ kept result (as_spoken (seen self.old)) (seen self.old) }
     {
         let count = self.notebook.speak(air, table, round, self.bit)?;
@@ -38,8 +38,8 @@ impl Records {
         round: usize,
     ) -> Result<usize, Refusal>
         requires { site < 6 }
-        ensures answer { result ≡ put_all_reply size (lanes air.old) table.now.site (owed_by table.now round (record_at self.old site)) }
-        ensures lanes { lanes air.new ≡ put_all_next size (lanes air.old) table.now.site (owed_by table.now round (record_at self.old site)) }
+        ensures answer { result ≡ put_all_reply A.size (A.lanes air.old) table.now.site (owed_by table.now round (record_at self.old site)) }
+        ensures lanes { A.lanes air.new ≡ put_all_next A.size (A.lanes air.old) table.now.site (owed_by table.now round (record_at self.old site)) }
         ensures records { map seen self.new.sites ≡ kept result (slice_set (map seen self.old.sites) site (as_spoken (record_at self.old site))) (map seen self.old.sites) }
     {
         self.sites[site as usize].speak(air, table, round)
@@ -51,8 +51,8 @@ impl<A: Air> Floor<A> {
     /// 23 for a rogue, 24 after the last phase, 26 where the site has spoken in this round, and 25 where the lane cannot
     /// take all of them, which does not come about on a floor that was opened and only called.
     pub fn speak(&mut self, site: u8) -> Result<usize, Refusal>
-        ensures answer { result ≡ speak_reply size (view lanes self.old) site }
-        ensures after { view lanes self.new ≡ speak_next size (view lanes self.old) site }
+        ensures answer { result ≡ speak_reply A.size (view A.lanes self.old) site }
+        ensures after { view A.lanes self.new ≡ speak_next A.size (view A.lanes self.old) site }
         ensures plan { plan_sheet self.new ≡ plan_sheet self.old }
     {
         self.sound(site)?;

@@ -19,7 +19,7 @@ use tables::{PathTable, Routing};
 impl SiteRecord {
     // Hears a round, which the first round of a phase does with an empty notebook.
     fn hear<A: Air>(&mut self, air: &A, table: &PathTable, round: usize)
-        ensures { seen self.new ≡ noted_by table.now (lanes air.now) round (seen self.old) }
+        ensures { seen self.new ≡ noted_by table.now (A.lanes air.now) round (seen self.old) }
     {
         self.notebook.take_round(air, table, round);
         self.spoken = false;
@@ -35,7 +35,7 @@ impl SiteRecord {
     // Hears the round that some turns came before, and weighs where it is the last of its phase.
     fn turn<A: Air>(&mut self, air: &A, ground: &Ground, site: u8, turns: usize)
         requires { site < (site_network ground.now.base).n }
-        ensures { seen self.new ≡ turned_by (site_network ground.now.base) (lanes air.now) turns site (seen self.old) }
+        ensures { seen self.new ≡ turned_by (site_network ground.now.base) (A.lanes air.now) turns site (seen self.old) }
     {
         let rounds = ground.base.plan.site_count() as usize - 1;
         let round = turns % rounds + 1;
@@ -59,7 +59,7 @@ impl Records {
 
     // Lets all sound sites hear the round that some turns came before.
     fn turn<A: Air>(&mut self, air: &A, ground: &Ground, rogues: SiteMask, turns: usize)
-        ensures { map seen self.new.sites ≡ map (turned_site (state_of ground.now.base rogues.bits self.old (lanes air.now) turns)) (range_with_len 0 6) }
+        ensures { map seen self.new.sites ≡ map (turned_site (state_of ground.now.base rogues.bits self.old (A.lanes air.now) turns)) (range_with_len 0 6) }
     {
         let n = ground.base.plan.site_count();
         for site in 0..self.count() {
@@ -88,8 +88,8 @@ impl<A: Air> Floor<A> {
     /// the floor was opened, with this one. Refused with 24 after the last phase, and with 27 where a sound site has not
     /// spoken.
     pub fn turn(&mut self) -> Result<usize, Refusal>
-        ensures answer { result ≡ turn_reply (view lanes self.old) }
-        ensures after { view lanes self.new ≡ turn_next (view lanes self.old) }
+        ensures answer { result ≡ turn_reply (view A.lanes self.old) }
+        ensures after { view A.lanes self.new ≡ turn_next (view A.lanes self.old) }
         ensures plan { plan_sheet self.new ≡ plan_sheet self.old }
     {
         if self.is_over() {

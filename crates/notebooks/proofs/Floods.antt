@@ -1,6 +1,6 @@
 -- Flood words: there and back, and what a lane says.
 use Rattle.std.proofs.Common.{◌≡◌, ℕ, zero, suc, ◌+◌, ◌<◌, ◌≤◌, Bool, true, false, cond, not, ◌&&◌, eqb, ltb, leb, List, [], ◌∷◌, map, length, get_or, Some, None, Option, sym, refl, ap, ◌∙◌, subst, inl, inr, ⊎_elim, arith}
-use Rattle.std.specs.List.{AllByRecursion as All}
+use Rattle.std.specs.List.{AllByRecursion}
 use Rattle.std.proofs.lemmas.List.{length-take-le}
 use Rattle.std.proofs.lemmas.Bool.{eqb-true, eqb-false, ne_eqb, le-leb, leb-true, lt-ltb, cases_Bool, and_parts, and_from, not_from_false, cond-true, cond-false}
 use Rattle.sites.specs.Lists.{In, Distinct, same_path}
@@ -28,7 +28,7 @@ distinct_at (x ∷ p) zero (suc j) d l k e = d.0 (subst (λ (y : ℕ). In y p) (
 distinct_at (x ∷ p) (suc i) zero d l k e = omega arith
 distinct_at (x ∷ p) (suc i) (suc j) d l k e = distinct_at p i j d.1 (omega arith) (omega arith) e
 
-pub path_from : (p : List ℕ) → length p ≤ 6 → All (λ s. s < 6) p → Distinct p → path? p ≡ true
+pub path_from : (p : List ℕ) → length p ≤ 6 → AllByRecursion (λ s. s < 6) p → Distinct p → path? p ≡ true
 path_from p l sites d =
     and_from (leb (length p) 6) _ (le-leb (length p) 6 l) (all_by (site_ok p) 0 (length p) (λ i a b.
     and_from (ltb (get_or p i 0) 6) (fresh_at p i)

@@ -1,13 +1,13 @@
 -- From what holds at each place of a list of sites to ways and fans of a network.
 use Rattle.std.proofs.Common.{◌≡◌, ℕ, zero, suc, ◌<◌, ◌≤◌, true, false, List, [], ◌∷◌, map, length, get_or, sym, refl, ap, ◌∙◌, subst, ⊎_elim, arith}
-use Rattle.std.specs.List.{AllByRecursion as All}
+use Rattle.std.specs.List.{AllByRecursion}
 use Rattle.std.proofs.lemmas.Bool.{cases_lt}
 use Rattle.sites.specs.Lists.{In, Distinct, front, final}
 use Rattle.sites.specs.Sets.{in_set}
 use Rattle.sites.proofs.Lists.{place_of, all_of, in_mapped, front_final, front_length}
 use Rattle.theory.specs.Network.{Network, Linked, Way, Apart}
 
-pub all_places : {X : Type 0} (P : X → Type 0) (d : X) (xs : List X) → ((j : ℕ) → j < length xs → P (get_or xs j d)) → All P xs
+pub all_places : {X : Type 0} (P : X → Type 0) (d : X) (xs : List X) → ((j : ℕ) → j < length xs → P (get_or xs j d)) → AllByRecursion P xs
 all_places P d [] h = tt
 all_places P d (x ∷ xs) h = (h 0 (omega arith), all_places P d xs (λ j l. h (suc j) (omega arith)))
 
@@ -80,6 +80,6 @@ apart_places g v (w ∷ run) h =
         let p = place_of run r.0 0 r.1 in
         h 0 (suc p.0) (omega arith) (omega (arith, p.1)) s a (subst (λ (l : List ℕ). In s l) (r.2 ∙ ap g (sym p.2)) b)
 
-pub all_mapped : (g : ℕ → List ℕ) (P : List ℕ → Type 0) (run : List ℕ) → ((k : ℕ) → k < length run → P (g (get_or run k 0))) → All P (map g run)
+pub all_mapped : (g : ℕ → List ℕ) (P : List ℕ → Type 0) (run : List ℕ) → ((k : ℕ) → k < length run → P (g (get_or run k 0))) → AllByRecursion P (map g run)
 all_mapped g P [] h = tt
 all_mapped g P (w ∷ run) h = (h 0 (omega arith), all_mapped g P run (λ k l. h (suc k) (omega arith)))

@@ -1,6 +1,6 @@
 -- Weighing by what a notebook tells.
 use Rattle.std.proofs.Common.{◌≡◌, ℕ, zero, suc, ◌+◌, ◌<◌, ◌≤◌, Bool, true, false, cond, List, [], ◌∷◌, map, length, get_or, drop, sym, refl, ap, ◌∙◌, arith}
-use Rattle.std.specs.List.{AllByRecursion as All}
+use Rattle.std.specs.List.{AllByRecursion}
 use Rattle.std.proofs.lemmas.List.{drop_more, drop_all, nil_from_length}
 use Rattle.sites.specs.Sets.{in_set}
 use Rattle.sites.specs.Lists.{front}
@@ -63,7 +63,7 @@ module _ (N : Network) (hear : List ℕ → Bool) (F : ℕ) (own : Bool) (v A : 
       ∙ ap (λ b. cond b own (agreed own (map (λ p. hear (front p)) (N.fan F v A)))) h)
 
 -- each word of a fan is lawful
-pub all_at : (P : ℕ → Type 0) (ws : List ℕ) (i : ℕ) → All P ws → i < length ws → P (get_or ws i 0)
+pub all_at : (P : ℕ → Type 0) (ws : List ℕ) (i : ℕ) → AllByRecursion P ws → i < length ws → P (get_or ws i 0)
 all_at P [] i a h = absurd (omega arith)
 all_at P (w ∷ ws) zero a h = a.0
 all_at P (w ∷ ws) (suc i) a h = all_at P ws i a.1 (omega arith)

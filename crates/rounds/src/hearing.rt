@@ -18,8 +18,8 @@ use words::Path;
 
 // A place up to which all words of a lane are below the wanted one.
 fn pass<A: Air>(air: &A, site: u8, wanted: u32, start: usize) -> usize
-    requires { Below (lane (lanes air.now) site) start wanted }
-    ensures { Below (lane (lanes air.now) site) result wanted }
+    requires { Below (lane (A.lanes air.now) site) start wanted }
+    ensures { Below (lane (A.lanes air.now) site) result wanted }
 {
     let count = air.count(site);
     for k in start..count {
@@ -42,7 +42,7 @@ fn silence() -> bool
 // The bit of the first word of a lane, from a place on, that is the wanted one with bit 0 or 1; 1 where there is none.
 fn search<A: Air>(air: &A, site: u8, wanted: u32, start: usize) -> bool
     requires { wanted < 2 ^ 32 - 1 }
-    ensures { result ≡ first_of_two wanted (drop start (lane (lanes air.now) site)) }
+    ensures { result ≡ first_of_two wanted (drop start (lane (A.lanes air.now) site)) }
 {
     for k in start..air.count(site) {
         if let Some(word) = air.at(site, k) {
@@ -60,7 +60,7 @@ fn search<A: Air>(air: &A, site: u8, wanted: u32, start: usize) -> bool
 /// The bit heard along a path: that of the first lawful flood word in the lane of its last site whose path is the path
 /// without that site; 1 where there is none. A path has just two flood words, so whole words are compared.
 pub fn heard<A: Air>(air: &A, path: &Path) -> bool
-    ensures { result ≡ heard_in (lane (lanes air.now)) (sites_of path.now) }
+    ensures { result ≡ heard_in (lane (A.lanes air.now)) (sites_of path.now) }
 {
     search(air, last_site(path), front_word(path), 0)
 }
@@ -82,9 +82,9 @@ impl Ear {
     // before need not be read again where the words below are below this one too: so a lane whose words ascend, as
     // those of a sound site do, is read once in a round.
     fn hear<A: Air>(&mut self, air: &A, site: u8, wanted: u32) -> bool
-        requires { (wanted < 2 ^ 32 - 1) × (Below (lane (lanes air.now) site) self.old.place self.old.above) }
-        ensures heard { result ≡ first_of_two wanted (lane (lanes air.now) site) }
-        ensures tuned { Below (lane (lanes air.now) site) self.new.place self.new.above }
+        requires { (wanted < 2 ^ 32 - 1) × (Below (lane (A.lanes air.now) site) self.old.place self.old.above) }
+        ensures heard { result ≡ first_of_two wanted (lane (A.lanes air.now) site) }
+        ensures tuned { Below (lane (A.lanes air.now) site) self.new.place self.new.above }
     {
         let start = if wanted < self.above { 0 } else { self.place };
         let place = pass(air, site, wanted, start);
@@ -106,9 +106,9 @@ impl Ears {
 
     // The flood word to note for a path.
     fn hear<A: Air>(&mut self, air: &A, path: ExpectedPath) -> u32
-        requires { (Tuned (lanes air.now) self.old) × ((path.last < 6) × ((path.front < 2 ^ 32 - 1) × (path.word < 2 ^ 32 - 1))) }
-        ensures heard { result ≡ note_of (lanes air.now) path }
-        ensures tuned { Tuned (lanes air.now) self.new }
+        requires { (Tuned (A.lanes air.now) self.old) × ((path.last < 6) × ((path.front < 2 ^ 32 - 1) × (path.word < 2 ^ 32 - 1))) }
+        ensures heard { result ≡ note_of (A.lanes air.now) path }
+        ensures tuned { Tuned (A.lanes air.now) self.new }
     {
         if self.ears[path.last as usize].hear(air, path.last, path.front) {
             path.word + 1
@@ -123,7 +123,7 @@ impl Notebook {
     /// site expects, with the bit heard along it. What is noted elsewhere stays. There is no path for round 0 or for a
     /// round past the fifth, and nothing changes.
     pub fn hear_round<A: Air>(&mut self, air: &A, table: &PathTable, round: usize)
-        ensures { self.new.words ≡ note_round (table_network table.now) table.now.site round (heard_in (lane (lanes air.now))) self.old.words }
+        ensures { self.new.words ≡ note_round (table_network table.now) table.now.site round (heard_in (lane (A.lanes air.now))) self.old.words }
     {
         let start = first_of_round(table, round);
         let paths = table.up_to(round);
@@ -135,7 +135,7 @@ impl Notebook {
 
     /// Takes a round of a phase, counted from 1: hears it as `hear_round` does, the first round with an empty notebook.
     pub fn take_round<A: Air>(&mut self, air: &A, table: &PathTable, round: usize)
-        ensures { self.new.words ≡ take_round (table_network table.now) table.now.site round (heard_in (lane (lanes air.now))) self.old.words }
+        ensures { self.new.words ≡ take_round (table_network table.now) table.now.site round (heard_in (lane (A.lanes air.now))) self.old.words }
     {
         if round == 1 {
             self.words = [0; 325];

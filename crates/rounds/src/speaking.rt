@@ -11,7 +11,7 @@ use tables::{ExpectedPath, PathTable};
 
 // 21 for a site of 6 or more, 25 where its lane has no room for so many more words.
 fn room_for<A: Air>(air: &A, site: u8, count: usize) -> Result<(), Refusal>
-    ensures { result ≡ with_room size (lanes air.now) site count tt }
+    ensures { result ≡ with_room A.size (A.lanes air.now) site count tt }
 {
     if site >= 6 {
         return Err(Refusal::NoSite);
@@ -62,8 +62,8 @@ fn with_bit(path: ExpectedPath, bit: bool) -> u32
 impl Notebook {
     // Puts a flood word for each path of k sites, with the bit noted for it, in a lane that has room for all of them.
     fn put_noted<A: Air>(&self, air: &mut A, table: &PathTable, k: usize)
-        requires { (table.now.site < 6) × (count_of (lanes air.old) table.now.site + length (round_words (table_network table.now) table.now.site k self.now.words) ≤ size) }
-        ensures { lanes air.new ≡ added (lanes air.old) table.now.site (round_words (table_network table.now) table.now.site k self.now.words) }
+        requires { (table.now.site < 6) × (count_of (A.lanes air.old) table.now.site + length (round_words (table_network table.now) table.now.site k self.now.words) ≤ size) }
+        ensures { A.lanes air.new ≡ added (A.lanes air.old) table.now.site (round_words (table_network table.now) table.now.site k self.now.words) }
     {
         let site = table.site();
         let start = first_of_round(table, k);
@@ -75,8 +75,8 @@ impl Notebook {
 
     // Puts what the table's site owes in a round, in a lane that has room for it.
     fn put_owed<A: Air>(&self, air: &mut A, table: &PathTable, round: usize, bit: bool)
-        requires { (table.now.site < 6) × (count_of (lanes air.old) table.now.site + length (owed_words (table_network table.now) table.now.site round bit self.now.words) ≤ size) }
-        ensures { lanes air.new ≡ added (lanes air.old) table.now.site (owed_words (table_network table.now) table.now.site round bit self.now.words) }
+        requires { (table.now.site < 6) × (count_of (A.lanes air.old) table.now.site + length (owed_words (table_network table.now) table.now.site round bit self.now.words) ≤ size) }
+        ensures { A.lanes air.new ≡ added (A.lanes air.old) table.now.site (owed_words (table_network table.now) table.now.site round bit self.now.words) }
     {
         if round == 1 {
             let _ = air.put(table.site(), opening_word(bit));
@@ -96,8 +96,8 @@ impl Notebook {
         round: usize,
         bit: bool,
     ) -> Result<usize, Refusal>
-        ensures answer { result ≡ put_all_reply size (lanes air.old) table.now.site (owed_words (table_network table.now) table.now.site round bit self.now.words) }
-        ensures after { lanes air.new ≡ put_all_next size (lanes air.old) table.now.site (owed_words (table_network table.now) table.now.site round bit self.now.words) }
+        ensures answer { result ≡ put_all_reply A.size (A.lanes air.old) table.now.site (owed_words (table_network table.now) table.now.site round bit self.now.words) }
+        ensures after { A.lanes air.new ≡ put_all_next A.size (A.lanes air.old) table.now.site (owed_words (table_network table.now) table.now.site round bit self.now.words) }
     {
         let count = owed_count(table, round);
         room_for(air, table.site(), count)?;

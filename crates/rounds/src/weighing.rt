@@ -1,5 +1,5 @@
 ghost use Rattle.std.specs.Prelude.{◌≡◌, true, map, is_some, if◌then◌else◌, Decides, nat_eq};
-ghost use Rattle.std.specs.List.{AllByRecursion as All};
+ghost use Rattle.std.specs.List.{AllByRecursion};
 ghost use Rattle.sites.specs.Lists.{front};
 ghost use Rattle.sites.specs.Keepers.{keepers as keepers_by};
 ghost use Rattle.words.specs.Layout.{path_field};
@@ -16,7 +16,7 @@ use words::PathWord;
 /// The set A of the sites that keep their bits when a phase is weighed, where a set is suspected and the sites of Z
 /// have bit 0.
 pub fn keepers<P: Routing>(plan: &P, set: SiteMask, zeros: SiteMask) -> SiteMask
-    ensures { result.bits ≡ keepers_by (network plan.now).n (network plan.now).f set.bits zeros.bits }
+    ensures { result.bits ≡ keepers_by (P.network plan.now).n (P.network plan.now).f set.bits zeros.bits }
 {
     sites::keepers(plan.site_count(), plan.rogue_limit(), set, zeros)
 }
@@ -31,7 +31,7 @@ impl Notebook {
         own: bool,
         from: u8,
     ) -> bool
-        ensures { result ≡ (if nat_eq from table.now.site then own else told_by (table_network table.now) table.now.site self.now.words (front ((network plan.now).route set.bits from table.now.site))) }
+        ensures { result ≡ (if nat_eq from table.now.site then own else told_by (table_network table.now) table.now.site self.now.words (front ((P.network plan.now).route set.bits from table.now.site))) }
     {
         if from == table.site() {
             return own;
@@ -48,7 +48,7 @@ impl Notebook {
         set: SiteMask,
         own: bool,
     ) -> SiteMask
-        ensures { result.bits ≡ zeros_of (network plan.now) (told_by (table_network table.now) table.now.site self.now.words) set.bits own table.now.site }
+        ensures { result.bits ≡ zeros_of (P.network plan.now) (told_by (table_network table.now) table.now.site self.now.words) set.bits own table.now.site }
     {
         let mut bits = 0;
         for from in 0..plan.site_count() {
@@ -80,7 +80,7 @@ impl Notebook {
 
     // The common bit of the paths of a fan, or else the one held.
     fn agreed(&self, table: &PathTable, fan: &[u32], own: bool) -> bool
-        requires { All (λ w. is_some (meaning w) ≡ true) fan.now }
+        requires { AllByRecursion (λ w. is_some (meaning w) ≡ true) fan.now }
         ensures { result ≡ agreed_of own (map (λ w. told_by (table_network table.now) table.now.site self.now.words (front (path_field w))) fan.now) }
     {
         if fan.len() == 0 {
@@ -97,7 +97,7 @@ impl Notebook {
 
     /// The bit that the table's site holds from the end of a phase on, where it held `own` and a set was suspected.
     pub fn weigh<P: Routing>(&self, plan: &P, table: &PathTable, set: SiteMask, own: bool) -> bool
-        ensures { result ≡ weigh_of (network plan.now) (told_by (table_network table.now) table.now.site self.now.words) set.bits own table.now.site }
+        ensures { result ≡ weigh_of (P.network plan.now) (told_by (table_network table.now) table.now.site self.now.words) set.bits own table.now.site }
     {
         let site = table.site();
         let among = keepers(plan, set, self.zeros(plan, table, set, own));

@@ -1,6 +1,6 @@
 -- A sheet that passed rows 1 to 6 is read whole, in lawful items.
 use Rattle.std.proofs.Common.{◌≡◌, ℕ, zero, suc, ◌+◌, ◌-◌, ◌*◌, ◌/◌, ◌%◌, ◌<◌, ◌≤◌, true, ltb, leb, ◌⊎◌, List, [], ◌∷◌, ◌++◌, map, length, get_or, drop, Some, None, Ok, Option, sym, refl, ap, ◌∙◌, subst, inl, inr, ⊎_elim, arith}
-use Rattle.std.specs.List.{AllByRecursion as All}
+use Rattle.std.specs.List.{AllByRecursion}
 use Rattle.std.proofs.lemmas.List.{drop_all, drop_more, drop-drop, take-append-drop, length-take-le, length-drop, get_or-take, get_or-drop}
 use Rattle.std.proofs.lemmas.Bool.{and_parts, cond-true, cond-false, eq-eqb, ne_eqb, ltb-true, lt-ltb, le-ltb, leb-true, cases_lt, cases_eq}
 use Rattle.sites.specs.Lists.{join_all}
@@ -58,7 +58,7 @@ record ItemHere (ws : List ℕ) (i : ℕ) (part : Part) : Type 0 where
   fine : Lawful ws part
   there : drop i ws ≡ words_of part ++ drop (i + length (words_of part)) ws
 
-all_words : (P : ℕ → Type 0) (xs : List ℕ) → ((k : ℕ) → k < length xs → P (get_or xs k 0)) → All P xs
+all_words : (P : ℕ → Type 0) (xs : List ℕ) → ((k : ℕ) → k < length xs → P (get_or xs k 0)) → AllByRecursion P xs
 all_words P [] h = tt
 all_words P (x ∷ xs) h = (h 0 (omega arith), all_words P xs (λ k l. h (suc k) (omega arith)))
 
@@ -112,7 +112,7 @@ module _ (ws : List ℕ) (ok : well_formed ws ≡ Ok tt) where
 
   -- what is read from i on
   abbrev Read_from : ℕ → Type 0
-  Read_from i = (parts : List Part) × Gives ws i parts × All (Lawful ws) parts × (join_all (map words_of parts) ≡ drop i ws)
+  Read_from i = (parts : List Part) × Gives ws i parts × AllByRecursion (Lawful ws) parts × (join_all (map words_of parts) ≡ drop i ws)
 
   more : (i : ℕ) (part : Part) → i < length ws → ItemHere ws i part → Read_from (i + length (words_of part)) → Read_from i
   more i part h here r =

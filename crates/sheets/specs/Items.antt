@@ -1,6 +1,6 @@
 -- What a reader gives out: the items of a sheet, each with its place.
 use Rattle.std.specs.Prelude.{◌≡◌, ℕ, ◌+◌, ◌*◌, ◌/◌, ◌%◌, ◌<◌, ◌≤◌, true, cond, List, [], ◌∷◌, map, length, Some, None, Ok, Err, Option, Result, ◌==◌, nat_lt}
-use Rattle.std.specs.List.{AllByRecursion as All}
+use Rattle.std.specs.List.{AllByRecursion}
 use Rattle.sites.specs.Lists.{join_all}
 use Rattle.words.specs.Layout.{kind_field}
 use Rattle.sheets.specs.declared.refusal.SheetRefusal.{SheetRefusal}
@@ -59,7 +59,7 @@ module _ (ws : List ℕ) where
   Lawful (head place n f) = ⊥
   Lawful (edge place a b) = (a < b) × (b < site_count ws)
   Lawful (route place word) = (kind_field word ≡ 10) × (path_word? ws word ≡ true)
-  Lawful (fan place run) = (length run ≡ rogue_limit ws + 1) × (fan? run ≡ true) × All (λ word. (kind_field word ≡ 11) × (path_word? ws word ≡ true)) run
+  Lawful (fan place run) = (length run ≡ rogue_limit ws + 1) × (fan? run ≡ true) × AllByRecursion (λ word. (kind_field word ≡ 11) × (path_word? ws word ≡ true)) run
 
   -- reading from the sheet's first word on gives a head and then lawful items, and their words in this order are the sheet:
   -- none left out, none twice
@@ -69,7 +69,7 @@ module _ (ws : List ℕ) where
     pub nothing_else : (parts : List Part) → Gives 0 parts → parts ≡ head 0 (site_count ws) (rogue_limit ws) ∷ later_parts
     pub sites_in_range : (2 ≤ site_count ws) × (site_count ws ≤ 6)
     pub rogues_in_range : rogue_limit ws ≤ 2
-    pub lawful : All Lawful later_parts
+    pub lawful : AllByRecursion Lawful later_parts
     pub whole : join_all (map words_of (head 0 (site_count ws) (rogue_limit ws) ∷ later_parts)) ≡ ws
 
   -- every sheet that passes rows 1 to 6 is read so

@@ -23,8 +23,8 @@ impl Round {
         table: &PathTable,
         notebook: &Notebook,
     ) -> Result<usize, Refusal>
-        ensures answer { result ≡ put_all_reply size (lanes air.old) table.now.site (owed_words (table_network table.now) table.now.site self.now.round self.now.bit notebook.now.words) }
-        ensures after { lanes air.new ≡ put_all_next size (lanes air.old) table.now.site (owed_words (table_network table.now) table.now.site self.now.round self.now.bit notebook.now.words) }
+        ensures answer { result ≡ put_all_reply A.size (A.lanes air.old) table.now.site (owed_words (table_network table.now) table.now.site self.now.round self.now.bit notebook.now.words) }
+        ensures after { A.lanes air.new ≡ put_all_next A.size (A.lanes air.old) table.now.site (owed_words (table_network table.now) table.now.site self.now.round self.now.bit notebook.now.words) }
     {
         notebook.speak(air, table, self.round, self.bit)
     }
@@ -37,8 +37,8 @@ impl Round {
         air: &mut A,
         notebook: &Notebook,
     ) -> Result<usize, Refusal>
-        ensures answer { result ≡ speak_reply size (network plan.now) (lanes air.old) (seen_round self.now) notebook.now.words }
-        ensures after { lanes air.new ≡ speak_next size (network plan.now) (lanes air.old) (seen_round self.now) notebook.now.words }
+        ensures answer { result ≡ speak_reply A.size (network plan.now) (A.lanes air.old) (seen_round self.now) notebook.now.words }
+        ensures after { A.lanes air.new ≡ speak_next A.size (network plan.now) (A.lanes air.old) (seen_round self.now) notebook.now.words }
     {
         if !has_size(plan, self.n, self.f) {
             return Err(Refusal::OtherPlan);

@@ -61,7 +61,7 @@ impl Round {
 
     // Hears the neighbours of the table's site.
     fn hear<A: Air>(&self, air: &A, table: &PathTable, notebook: &mut Notebook)
-        ensures { notebook.new.words ≡ take_round (table_network table.now) table.now.site self.now.round (heard_in (lane (lanes air.now))) notebook.old.words }
+        ensures { notebook.new.words ≡ take_round (table_network table.now) table.now.site self.now.round (heard_in (lane (A.lanes air.now))) notebook.old.words }
     {
         notebook.take_round(air, table, self.round);
     }
@@ -75,7 +75,7 @@ impl Round {
         air: &A,
         notebook: &mut Notebook,
     ) -> Result<Taken, (Refusal, Round)>
-        ensures { Takes (network plan.now) (lanes air.now) (seen_round self) notebook.old.words notebook.new.words result }
+        ensures { Takes (network plan.now) (A.lanes air.now) (seen_round self) notebook.old.words notebook.new.words result }
     {
         if !has_size(plan, self.n, self.f) {
             return Err((Refusal::OtherPlan, self));

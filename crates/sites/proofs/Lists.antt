@@ -1,22 +1,22 @@
 -- Members of lists, lists with no element twice, lists in order, paths and one more site.
 use Rattle.std.proofs.Common.{◌≡◌, ℕ, zero, suc, ◌+◌, ◌-◌, ◌<◌, ◌≤◌, Bool, true, false, cond, not, ◌&&◌, ◌||◌, eqb, ◌⊎◌, List, [], ◌∷◌, ◌++◌, map, length, get_or, filter, sym, refl, ap, ◌∙◌, subst, inl, inr, ⊎_elim, arith, length-append}
-use Rattle.std.specs.List.{AllByRecursion as All, range_with_len}
+use Rattle.std.specs.List.{AllByRecursion, range_with_len}
 use Rattle.std.proofs.lemmas.Bool.{eqb-true, eq-eqb, ne_eqb, cases_eq, cases_Bool, both_ways, and_parts, or_cases, or_left, or_right, cond-false, not-true}
 use Rattle.std.proofs.ByRecursion.{All-append}
 use Rattle.sites.specs.Lists.{In, Distinct, has, front, final, same_path, join_all}
 
 -- ---- members
 
-pub all_in : {X : Type 0} (P : X → Type 0) (xs : List X) (x : X) → All P xs → In x xs → P x
+pub all_in : {X : Type 0} (P : X → Type 0) (xs : List X) (x : X) → AllByRecursion P xs → In x xs → P x
 all_in P [] x a i = absurd i
 all_in P (y ∷ ys) x a (inl e) = subst P (sym e) a.0
 all_in P (y ∷ ys) x a (inr i) = all_in P ys x a.1 i
 
-pub all_of : {X : Type 0} (P : X → Type 0) (xs : List X) → ((x : X) → In x xs → P x) → All P xs
+pub all_of : {X : Type 0} (P : X → Type 0) (xs : List X) → ((x : X) → In x xs → P x) → AllByRecursion P xs
 all_of P [] h = tt
 all_of P (y ∷ ys) h = (h y (inl refl), all_of P ys (λ x i. h x (inr i)))
 
-pub all_left : {X : Type 0} (P : X → Type 0) (xs ys : List X) → All P (xs ++ ys) → All P xs
+pub all_left : {X : Type 0} (P : X → Type 0) (xs ys : List X) → AllByRecursion P (xs ++ ys) → AllByRecursion P xs
 all_left P [] ys a = tt
 all_left P (x ∷ xs) ys a = (a.0, all_left P xs ys a.1)
 
@@ -141,7 +141,7 @@ distinct_push xs s d new = distinct_append xs (s ∷ []) d ((λ i. i), tt) (λ x
 -- each element comes before all later ones
 abbrev pub Sorted : {X : Type 0} → (X → X → Type 0) → List X → Type 0
 Sorted R [] = Unit {0}
-Sorted R (x ∷ xs) = All (R x) xs × Sorted R xs
+Sorted R (x ∷ xs) = AllByRecursion (R x) xs × Sorted R xs
 
 pub sorted_at : {X : Type 0} (R : X → X → Type 0) (xs : List X) (d : X) → Sorted R xs → (i j : ℕ) → i < j → j < length xs → R (get_or xs i d) (get_or xs j d)
 sorted_at R [] d s i j l m = absurd (omega arith)
@@ -331,6 +331,6 @@ front_length (x ∷ []) k e = omega arith
 front_length (x ∷ y ∷ r) zero e = absurd (omega arith)
 front_length (x ∷ y ∷ r) (suc k) e = ap suc (front_length (y ∷ r) k (omega arith))
 
-pub final_all : (P : ℕ → Type 0) (x : ℕ) (r : List ℕ) → All P (x ∷ r) → P (final (x ∷ r))
+pub final_all : (P : ℕ → Type 0) (x : ℕ) (r : List ℕ) → AllByRecursion P (x ∷ r) → P (final (x ∷ r))
 final_all P x [] a = a.0
 final_all P x (y ∷ r) a = final_all P y r a.1

@@ -1,6 +1,6 @@
 -- Networks with the same sites and edges have the same paths.
 use Rattle.std.proofs.Common.{◌≡◌, ℕ, zero, suc, ◌<◌, Bool, true, false, cond, not, ◌&&◌, List, [], ◌∷◌, ◌++◌, map, length, filter, sym, refl, ap, ◌∙◌, subst, inl, inr, arith}
-use Rattle.std.specs.List.{AllByRecursion as All, range_with_len}
+use Rattle.std.specs.List.{AllByRecursion, range_with_len}
 use Rattle.sites.specs.Lists.{In, has, final, join_all}
 use Rattle.sites.proofs.Lists.{map_same, counting_below, final_all}
 use Rattle.theory.specs.Network.{Network}
@@ -17,11 +17,11 @@ kept_same t u (x ∷ xs) h =
     ∙ ap (λ r. cond (u x) (x ∷ r) r) (kept_same t u xs (λ y i. h y (inr i)))
 
 module _ (N M : Network) (same : SameEdges N M) where
-  goes_same : (p : List ℕ) (s : ℕ) → All (λ x. x < N.n) p → s < N.n → goes_on N p s ≡ goes_on M p s
+  goes_same : (p : List ℕ) (s : ℕ) → AllByRecursion (λ x. x < N.n) p → s < N.n → goes_on N p s ≡ goes_on M p s
   goes_same [] s a l = refl
   goes_same (x ∷ xs) s a l = ap (λ b. b && not (has s (x ∷ xs))) (same.edges (final (x ∷ xs)) s (final_all (λ x. x < N.n) x xs a) l)
 
-  longer_same : (p : List ℕ) → All (λ x. x < N.n) p → longer N p ≡ longer M p
+  longer_same : (p : List ℕ) → AllByRecursion (λ x. x < N.n) p → longer N p ≡ longer M p
   unfolding longer
   longer_same p a =
       ap (map (λ s. p ++ s ∷ []))

@@ -1,5 +1,5 @@
 ghost use Rattle.std.specs.Prelude.{◌≡◌, ℕ, ◌≤◌, true, map, is_some};
-ghost use Rattle.std.specs.List.{AllByRecursion as All};
+ghost use Rattle.std.specs.List.{AllByRecursion};
 ghost use Rattle.words.specs.Layout.{path_field};
 ghost use Rattle.words.specs.Words.{meaning, sites_of};
 ghost use Rattle.theory.specs.Network.{Network, Lawful};
@@ -31,7 +31,7 @@ pub trait Routing {
     /// The fan taken at a site, from sources among some sites, where a set is suspected: lawful path words.
     fn fan(&self, set: SiteMask, at: u8, among: SiteMask) -> &[u32]
         ensures paths { map path_field result.now ≡ (network self.now).fan set.bits at among.bits }
-        ensures lawful { All (λ w. is_some (meaning w) ≡ true) result.now };
+        ensures lawful { AllByRecursion (λ w. is_some (meaning w) ≡ true) result.now };
 
     ghost lawful: { (p : Self) → Lawful (network p) };
 

@@ -16,7 +16,7 @@ fn with_site(mask: u32, site: u8) -> u32
 
 // The sites below n that hear a site.
 fn hearers<P: Routing>(plan: &P, site: u8) -> u32
-    ensures { result ≡ mask_of (network plan.now).n (λ s. (network plan.now).joined site s) }
+    ensures { result ≡ mask_of (P.network plan.now).n (λ s. (P.network plan.now).joined site s) }
 {
     let mut mask = 0;
     for s in 0..plan.site_count() {
@@ -30,7 +30,7 @@ fn hearers<P: Routing>(plan: &P, site: u8) -> u32
 impl Wiring {
     /// The sites and edges of a plan.
     pub fn of<P: Routing>(plan: &P) -> Wiring
-        ensures { SameEdges (network plan.now) (network_of result) }
+        ensures { SameEdges (P.network plan.now) (network_of result) }
     {
         let n = plan.site_count();
         let mut near = [0; 6];

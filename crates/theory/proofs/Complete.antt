@@ -1,6 +1,6 @@
 -- A network that passes the test of completeness is lawful.
 use Rattle.std.proofs.Common.{◌≡◌, ℕ, suc, ◌^◌, ◌<◌, Bool, true, false, not, ◌&&◌, ◌||◌, eqb, ltb, leb, List, [], ◌∷◌, length, refl, ap, ◌∙◌, inl, inr, ⊎_elim, arith}
-use Rattle.std.specs.List.{AllByRecursion as All, range_with_len}
+use Rattle.std.specs.List.{AllByRecursion, range_with_len}
 use Rattle.std.proofs.lemmas.Bool.{eqb-true, leb-true, ltb-true, both_ways, and_parts, or_cases, not-true}
 use Rattle.sites.specs.Sets.{in_set}
 use Rattle.sites.specs.Lists.{In, Distinct, has, front, final}
@@ -16,7 +16,7 @@ every_in t [] x h i = absurd i
 every_in t (y ∷ ys) x h (inl e) = ap t e ∙ (and_parts (t y) (every t ys) h).0
 every_in t (y ∷ ys) x h (inr i) = every_in t ys x (and_parts (t y) (every t ys) h).1 i
 
-pub every_all : {X : Type 0} (t : X → Bool) (P : X → Type 0) → ((x : X) → t x ≡ true → P x) → (xs : List X) → every t xs ≡ true → All P xs
+pub every_all : {X : Type 0} (t : X → Bool) (P : X → Type 0) → ((x : X) → t x ≡ true → P x) → (xs : List X) → every t xs ≡ true → AllByRecursion P xs
 every_all t P k [] h = tt
 every_all t P k (y ∷ ys) h = let a = and_parts (t y) (every t ys) h in (k y a.0, every_all t P k ys a.1)
 

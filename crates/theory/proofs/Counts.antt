@@ -1,6 +1,6 @@
 -- How many paths a site expects a bit along.
 use Rattle.std.proofs.Common.{◌≡◌, ℕ, zero, suc, ◌+◌, ◌-◌, ◌*◌, ◌<◌, ◌≤◌, Bool, true, false, cond, not, ◌&&◌, List, [], ◌∷◌, ◌++◌, map, length, filter, sym, refl, ap, ◌∙◌, inl, inr, ⊎_elim, suc-mul, zero-mul, arith, length-append}
-use Rattle.std.specs.List.{AllByRecursion as All, range_with_len}
+use Rattle.std.specs.List.{AllByRecursion, range_with_len}
 use Rattle.std.proofs.lemmas.List.{length-map}
 use Rattle.std.proofs.lemmas.List.Elements.{filter-append}
 use Rattle.std.proofs.lemmas.Nat.{mul-le}
@@ -30,7 +30,7 @@ room_none zero = refl
 room_none (suc k) = let e : room 6 (suc (suc (suc (suc (suc (suc k)))))) ≡ 0 = room_none k in ap (λ (x : ℕ). x * (6 - 1 - suc (suc (suc (suc (suc (suc k))))))) e ∙ zero-mul (6 - 1 - suc (suc (suc (suc (suc (suc k))))))
 
 module _ (N : Network) (v : ℕ) (below : v < N.n) where
-  longer_few : (p : List ℕ) → All (λ s. s < N.n) p → Distinct p → has v p ≡ false → length (lack v (longer N p)) + suc (length p) ≤ N.n
+  longer_few : (p : List ℕ) → AllByRecursion (λ s. s < N.n) p → Distinct p → has v p ≡ false → length (lack v (longer N p)) + suc (length p) ≤ N.n
   unfolding longer
   longer_few p sites d h =
       let t : ℕ → Bool = goes_on N p in

@@ -1,6 +1,6 @@
 -- The paths of a network, and those along which a site expects a bit.
 use Rattle.std.proofs.Common.{◌≡◌, ℕ, zero, suc, ◌+◌, ◌-◌, ◌<◌, ◌≤◌, true, not, ◌&&◌, List, [], ◌∷◌, ◌++◌, map, length, filter, sym, refl, ap, ◌∙◌, subst, inl, inr, ⊎_elim, append_assoc, append-nil, arith, length-append}
-use Rattle.std.specs.List.{AllByRecursion as All, range_with_len}
+use Rattle.std.specs.List.{AllByRecursion, range_with_len}
 use Rattle.std.proofs.lemmas.Bool.{cases_eq, and_from, and_parts, not_from_false}
 use Rattle.std.proofs.ByRecursion.{All-push}
 use Rattle.sites.specs.Lists.{In, Distinct, has, front, final}
@@ -73,7 +73,7 @@ unfolding paths
 path_none N = inl refl
 
 walk : (N : Network) (rest : List ℕ) (x : ℕ) (xs : List ℕ) (k : ℕ) → In (x ∷ xs) (paths N k) → Linked N ((x ∷ xs) ++ rest) → Distinct ((x ∷ xs) ++ rest) →
-    All (λ s. s < N.n) rest → In ((x ∷ xs) ++ rest) (paths N (k + length rest))
+    AllByRecursion (λ s. s < N.n) rest → In ((x ∷ xs) ++ rest) (paths N (k + length rest))
 walk N [] x xs k i l d s =
     let e : k ≡ k + length {A = ℕ} [] = omega arith in
     subst (λ (q : List ℕ). In q (paths N (k + length {A = ℕ} []))) (sym (append-nil (x ∷ xs))) (subst (λ (j : ℕ). In (x ∷ xs) (paths N j)) e i)
@@ -123,7 +123,7 @@ way_front N F u v q t = ap front t.is ∙ front_push (u ∷ t.inner) v
 pub way_expected : (N : Network) (F u v : ℕ) (q : List ℕ) (t : Way N F u v q) → In (u ∷ t.inner) (expected N v (suc (length t.inner)))
 way_expected N F u v q t =
     let z : List ℕ = t.inner in
-    let sites : All (λ x. x < N.n) ((u ∷ z) ++ v ∷ []) = subst (All (λ x. x < N.n)) t.is t.sites in
+    let sites : AllByRecursion (λ x. x < N.n) ((u ∷ z) ++ v ∷ []) = subst (AllByRecursion (λ x. x < N.n)) t.is t.sites in
     let d : Distinct ((u ∷ z) ++ v ∷ []) = subst Distinct t.is t.distinct in
     let l : Linked N ((u ∷ z) ++ v ∷ []) = subst (Linked N) t.is t.linked in
     are_expected N v (suc (length z)) (u ∷ z) (record {

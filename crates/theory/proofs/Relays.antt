@@ -1,6 +1,6 @@
 -- What is heard along a path whose relays are sound.
 use Rattle.std.proofs.Common.{◌≡◌, ℕ, suc, ◌+◌, ◌-◌, ◌<◌, ◌≤◌, Bool, true, false, cond, ◌⊎◌, List, [], ◌∷◌, ◌++◌, length, sym, refl, ap, ◌∙◌, subst, inl, inr, append_assoc, append-nil, arith, length-append}
-use Rattle.std.specs.List.{AllByRecursion as All}
+use Rattle.std.specs.List.{AllByRecursion}
 use Rattle.std.proofs.lemmas.Bool.{both_ways}
 use Rattle.sites.specs.Lists.{In, front, final, same_path}
 use Rattle.sites.proofs.Lists.{all_left, distinct_left, distinct_apart, same_path_refl, same_path_true, front_push, final_push}
@@ -49,7 +49,7 @@ module _ (N : Network) (rogues : ℕ) (opening : ℕ → Bool) (said : Said) (tu
       ∙ ap (λ ws. first_bit ws (x ∷ xs)) (honest_at (suc (length xs)) w k l h)
       ∙ first_of (heard said (start N p)) (expected N w (suc (length xs))) (x ∷ xs) i
 
-  carry : (rest : List ℕ) (x : ℕ) (xs : List ℕ) (k : ℕ) → JoinedPath N k ((x ∷ xs) ++ rest) → All (Sound N rogues) rest → k ≤ N.n - 1 → start N p + k ≤ turns →
+  carry : (rest : List ℕ) (x : ℕ) (xs : List ℕ) (k : ℕ) → JoinedPath N k ((x ∷ xs) ++ rest) → AllByRecursion (Sound N rogues) rest → k ≤ N.n - 1 → start N p + k ≤ turns →
       heard said (start N p) ((x ∷ xs) ++ rest) ≡ heard said (start N p) (x ∷ xs)
   carry [] x xs k j s l b = ap (heard said (start N p)) (append-nil (x ∷ xs))
   carry (w ∷ rest) x xs k j s l b =
@@ -72,12 +72,12 @@ module _ (N : Network) (rogues : ℕ) (opening : ℕ → Bool) (said : Said) (tu
       ∙ relay x w xs i (omega arith) (omega arith) s.0
 
   -- an expected path carries what its source flooded
-  pub carries : (v u k : ℕ) (relays : List ℕ) → v < N.n → In (u ∷ relays) (expected N v k) → start N p + k ≤ turns → All (Sound N rogues) relays →
+  pub carries : (v u k : ℕ) (relays : List ℕ) → v < N.n → In (u ∷ relays) (expected N v k) → start N p + k ≤ turns → AllByRecursion (Sound N rogues) relays →
       heard said (start N p) (u ∷ relays) ≡ flooded said (start N p) u
   carries v u k relays h i l s = carry relays u [] k (expected_are N v k (u ∷ relays) i).path s (expected_short N v k (u ∷ relays) h i) l
 
   -- and so does a way whose inner sites are sound
-  pub along : (F u v : ℕ) (q : List ℕ) (t : Way N F u v q) → v < N.n → start N p + suc (length t.inner) ≤ turns → All (Sound N rogues) t.inner →
+  pub along : (F u v : ℕ) (q : List ℕ) (t : Way N F u v q) → v < N.n → start N p + suc (length t.inner) ≤ turns → AllByRecursion (Sound N rogues) t.inner →
       heard said (start N p) (front q) ≡ flooded said (start N p) u
   along F u v q t h l s = ap (heard said (start N p)) (way_front N F u v q t) ∙ carries v u (suc (length t.inner)) t.inner h (way_expected N F u v q t) l s
 

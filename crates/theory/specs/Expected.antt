@@ -1,6 +1,6 @@
 -- What the paths are along which a site expects a bit.
 use Rattle.std.specs.Prelude.{◌≡◌, ℕ, ◌<◌, ◌≤◌, true, ◌⊎◌, List, [], ◌∷◌, length, slice_index_or}
-use Rattle.std.specs.List.{AllByRecursion as All}
+use Rattle.std.specs.List.{AllByRecursion}
 use Rattle.sites.specs.Lists.{In, Distinct, final}
 use Rattle.theory.specs.Network.{Network, Linked}
 use Rattle.theory.specs.Flooding.{expected, expected_up_to}
@@ -8,7 +8,7 @@ use Rattle.theory.specs.Flooding.{expected, expected_up_to}
 -- q is a path of k sites, all different, each joined to the next
 pub record JoinedPath (N : Network) (k : ℕ) (q : List ℕ) : Type 0 where
   pub long : length q ≡ k
-  pub sites : All (λ s. s < N.n) q
+  pub sites : AllByRecursion (λ s. s < N.n) q
   pub distinct : Distinct q
   pub linked : Linked N q
 

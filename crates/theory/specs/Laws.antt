@@ -1,6 +1,6 @@
 -- What holds of every run: over every lawful network, all rogues, all openings and all that the rogues say.
 use Rattle.std.specs.Prelude.{◌≡◌, ℕ, suc, ◌+◌, ◌<◌, ◌≤◌, Bool, true, List, ◌∷◌}
-use Rattle.std.specs.List.{AllByRecursion as All}
+use Rattle.std.specs.List.{AllByRecursion}
 use Rattle.sites.specs.Sets.{in_set}
 use Rattle.sites.specs.Lists.{In}
 use Rattle.theory.specs.Network.{Network, Lawful, Suspect}
@@ -17,7 +17,7 @@ pub record Carries (N : Network) (rogues : ℕ) (opening : ℕ → Bool) (said :
 -- a path along which some site expects a bit carries it so where its relays, all sites but the first, are sound; this holds as soon as the path was heard
 abbrev pub RelayLaw : Type 0
 RelayLaw = (N : Network) (rogues : ℕ) (opening : ℕ → Bool) (said : Said) (turns p v u k : ℕ) (relays : List ℕ) →
-    Run N rogues opening said turns → v < N.n → In (u ∷ relays) (expected N v k) → start N p + k ≤ turns → All (Sound N rogues) relays →
+    Run N rogues opening said turns → v < N.n → In (u ∷ relays) (expected N v k) → start N p + k ≤ turns → AllByRecursion (Sound N rogues) relays →
     Carries N rogues opening said p u relays
 
 -- ---- one phase

@@ -1,6 +1,6 @@
 -- A network: its sites and edges, and the paths that its sites hear each other by.
 use Rattle.std.specs.Prelude.{◌≡◌, ℕ, suc, ◌^◌, ◌<◌, ◌≤◌, Bool, true, false, List, [], ◌∷◌, ◌++◌, length, ◌≢◌, count_ones}
-use Rattle.std.specs.List.{AllByRecursion as All}
+use Rattle.std.specs.List.{AllByRecursion}
 use Rattle.sites.specs.Keepers.{keepers}
 use Rattle.sites.specs.Sets.{in_set}
 use Rattle.sites.specs.Lists.{In, Distinct}
@@ -32,20 +32,20 @@ Linked N (x ∷ y ∷ r) = (N.joined x y ≡ true) × Linked N (y ∷ r)
 pub record Way (N : Network) (F u v : ℕ) (p : List ℕ) : Type 0 where
   pub inner : List ℕ
   pub is : p ≡ u ∷ (inner ++ v ∷ [])
-  pub sites : All (λ s. s < N.n) p
+  pub sites : AllByRecursion (λ s. s < N.n) p
   pub distinct : Distinct p
   pub linked : Linked N p
-  pub avoids : All (λ s. in_set F s ≡ false) inner
+  pub avoids : AllByRecursion (λ s. in_set F s ≡ false) inner
 
 -- no two of the paths share a site other than v
 abbrev pub Apart : ℕ → List (List ℕ) → Type 0
 Apart v [] = Unit {0}
-Apart v (p ∷ ps) = All (λ q. (s : ℕ) → In s p → In s q → s ≡ v) ps × Apart v ps
+Apart v (p ∷ ps) = AllByRecursion (λ q. (s : ℕ) → In s p → In s q → s ≡ v) ps × Apart v ps
 
 -- f + 1 paths from sites of A to v that avoid F between their ends and share no other site
 pub record Fan (N : Network) (F v A : ℕ) (ps : List (List ℕ)) : Type 0 where
   pub many : length ps ≡ suc N.f
-  pub paths : All (λ p. (u : ℕ) × (in_set A u ≡ true) × Way N F u v p) ps
+  pub paths : AllByRecursion (λ p. (u : ℕ) × (in_set A u ≡ true) × Way N F u v p) ps
   pub apart : Apart v ps
 
 -- For every suspect set F there is a route between any two sites, and a fan at each site that some set Z of sites with bit 0 puts into B, from sources in A: keepers gives A, and B is the rest. Nothing else is asked of n, f and the edges.

@@ -7,4 +7,4 @@ use Rattle.plans.proofs.plan.Plan.built_in.Goals as goal
 pub invariant_of-result : goal.invariant_of-result
 invariant_of-result c =
     let same : take 6 c.copied.result ≡ pair = subst (λ (w : List ℕ). take (length w) c.copied.result ≡ w) c.pair_words.ensures c.copied.ensures.front in
-    (c.copied.ensures.long, (omega arith, (ap complete? same ∙ ap is_ok sheet_examples.pair_passes, tt)))
+    record { long = c.copied.ensures.long; within = omega arith; whole = ap complete? same ∙ ap is_ok sheet_examples.pair_passes }

@@ -12,4 +12,9 @@ invariant_of-result c =
     let ps = expected_up_to (wired w.n w.near) c.args.site 5 in
     let e : d.len ≡ get_or d.ends 5 0 =
     c.draft_of-draft.ensures.len ∙ ap length c.draft_of-draft.ensures.lists.listed ∙ length-map ps entry_of ∙ sym (c.draft_of-draft.ensures.lists.counted 5 (omega arith)) in
-    (d.long, (d.six, ((λ k h. c.draft_of-draft.ensures.lists.counted k (omega arith)), (ap (λ x. take x d.entries) (sym e) ∙ c.draft_of-draft.ensures.lists.listed, tt))))
+    record {
+      long = d.long;
+      six = d.six;
+      counted = λ k h. c.draft_of-draft.ensures.lists.counted k (omega arith);
+      listed = ap (λ x. take x d.entries) (sym e) ∙ c.draft_of-draft.ensures.lists.listed;
+    }
