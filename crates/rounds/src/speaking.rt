@@ -62,7 +62,7 @@ fn with_bit(path: ExpectedPath, bit: bool) -> u32
 impl Notebook {
     // Puts a flood word for each path of k sites, with the bit noted for it, in a lane that has room for all of them.
     fn put_noted<A: Air>(&self, air: &mut A, table: &PathTable, k: usize)
-        requires { (table.now.site < 6) × (count_of (A.lanes air.old) table.now.site + length (round_words (table_network table.now) table.now.site k self.now.words) ≤ size) }
+        requires { (table.now.site < 6) × (count_of (A.lanes air.old) table.now.site + length (round_words (table_network table.now) table.now.site k self.now.words) ≤ A.size) }
         ensures { A.lanes air.new ≡ added (A.lanes air.old) table.now.site (round_words (table_network table.now) table.now.site k self.now.words) }
     {
         let site = table.site();
@@ -75,7 +75,7 @@ impl Notebook {
 
     // Puts what the table's site owes in a round, in a lane that has room for it.
     fn put_owed<A: Air>(&self, air: &mut A, table: &PathTable, round: usize, bit: bool)
-        requires { (table.now.site < 6) × (count_of (A.lanes air.old) table.now.site + length (owed_words (table_network table.now) table.now.site round bit self.now.words) ≤ size) }
+        requires { (table.now.site < 6) × (count_of (A.lanes air.old) table.now.site + length (owed_words (table_network table.now) table.now.site round bit self.now.words) ≤ A.size) }
         ensures { A.lanes air.new ≡ added (A.lanes air.old) table.now.site (owed_words (table_network table.now) table.now.site round bit self.now.words) }
     {
         if round == 1 {
