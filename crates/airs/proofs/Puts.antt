@@ -1,11 +1,11 @@
 -- What put answers and leaves, by cases, and the laws over six lanes.
-use Rattle.std.proofs.Common.{◌≡◌, ℕ, zero, suc, ◌+◌, ◌-◌, ◌<◌, ◌≤◌, List, [], ◌∷◌, ◌++◌, length, get_or, take, set, None, Ok, Err, Result, sym, refl, ap, ◌∙◌, subst, ⊎_elim, arith}
+use Rattle.std.proofs.Common.{◌≡◌, ℕ, zero, suc, ◌+◌, ◌-◌, ◌<◌, ◌≤◌, List, [], ◌∷◌, ◌++◌, length, get_or, take, set, None, Ok, Err, Result, sym, refl, ap, ◌∙◌, ⊎_elim, arith}
 use Rattle.std.proofs.lemmas.List.{append-nil, append_assoc, get_or_past, get_or-set_same, get_or-set_other, length-append, length_push, length-set, length-take-le, set-get_or, set-set, take_more}
 use Rattle.std.proofs.lemmas.Bool.{le-leb, lt-leb, cases_lt}
 use Rattle.sites.specs.declared.refusal.Refusal.{Refusal}
 use Rattle.sites.specs.declared.refusal.Refusal.TheVariants.{NoSite, LaneFull}
 use Rattle.airs.specs.Lanes.{Lanes, lane, count_of, word_at, silent, added, kept, put_reply, put_next}
-use Rattle.airs.specs.Laws.{Accepts, Put, PutLaw, AlikeLaw, ClearLaw, PastLaw}
+use Rattle.airs.specs.Laws.{Accepts, PutLaw, AlikeLaw, ClearLaw, PastLaw}
 
 module _ (size : ℕ) (ls : Lanes) (s : ℕ) where
   pub no_site : 6 ≤ s → put_reply size ls s ≡ Err NoSite

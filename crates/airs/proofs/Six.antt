@@ -1,5 +1,5 @@
 -- The lanes of a board, one by one.
-use Rattle.std.proofs.Common.{◌≡◌, ℕ, ◌<◌, ◌≤◌, List, [], ◌∷◌, map, length, get_or, set, sym, refl, ap, ◌∙◌, arith}
+use Rattle.std.proofs.Common.{◌≡◌, ℕ, ◌<◌, List, [], ◌∷◌, map, length, get_or, set, sym, refl, ap, ◌∙◌, arith}
 use Rattle.std.proofs.lemmas.List.{length-map, get_or-map, map-set, length-set, length-take-le}
 use Rattle.airs.specs.Lanes.{Lanes, lane}
 use Rattle.airs.specs.Boards.{words_of, six_of}

@@ -1,6 +1,5 @@
 -- What code over any air may rest on: laws over six lanes, an air's meaning.
-use Rattle.std.specs.Prelude.{◌≡◌, ℕ, ◌<◌, ◌≤◌, List, [], ◌∷◌, ◌++◌, length, Some, None, Ok, Err, Result, ◌≢◌}
-use Rattle.sites.specs.declared.refusal.Refusal.{Refusal}
+use Rattle.std.specs.Prelude.{◌≡◌, ℕ, ◌<◌, ◌≤◌, [], ◌∷◌, ◌++◌, length, None, Ok, Err, ◌≢◌}
 use Rattle.sites.specs.declared.refusal.Refusal.TheVariants.{NoSite, LaneFull}
 use Rattle.airs.specs.Lanes.{Lanes, lane, count_of, word_at, silent, put_reply, put_next}
 

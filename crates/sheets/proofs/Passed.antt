@@ -1,5 +1,5 @@
 -- What is known of a sheet that passed rows 1 to 6.
-use Rattle.std.proofs.Common.{◌≡◌, ℕ, zero, suc, ◌+◌, ◌-◌, ◌/◌, ◌%◌, ◌^◌, ◌<◌, ◌≤◌, Bool, true, false, cond, eqb, ltb, leb, ◌⊎◌, List, length, Some, None, Ok, Option, Result, refl, ap, ◌∙◌, subst, ⊎_elim, arith}
+use Rattle.std.proofs.Common.{◌≡◌, ℕ, zero, suc, ◌+◌, ◌-◌, ◌/◌, ◌%◌, ◌^◌, ◌<◌, ◌≤◌, Bool, true, false, cond, eqb, ltb, leb, List, length, Some, None, Ok, Option, Result, refl, ap, ◌∙◌, subst, ⊎_elim, arith}
 use native.Mathlib.Nat.{zero-mod, add-mod_right}
 use Rattle.std.proofs.lemmas.Bool.{and_parts, or_parts, and_from, and_cases, eqb-true, eq-eqb, ltb-true, ltb-false, leb-true, le-leb, not-false, both_ways}
 use Rattle.sites.specs.Positions.{first_from}

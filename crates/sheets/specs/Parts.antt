@@ -1,8 +1,8 @@
 -- The parts of a sheet: a head, then edges, then routes, then fan paths.
-use Rattle.std.specs.Prelude.{ℕ, ◌+◌, ◌-◌, ◌*◌, ◌/◌, ◌%◌, ◌^◌, Bool, true, false, cond, not, ◌&&◌, ltb, List, length, is_some, ◌==◌, nat_eq, nat_le, nat_lt, slice_index}
+use Rattle.std.specs.Prelude.{ℕ, ◌+◌, ◌-◌, ◌*◌, ◌/◌, ◌%◌, ◌^◌, Bool, cond, not, ◌&&◌, ltb, List, length, is_some, ◌==◌, nat_eq, nat_le, nat_lt, slice_index}
 use Rattle.sites.specs.Positions.{all_from, any_from}
 use Rattle.sites.specs.Sets.{in_set}
-use Rattle.words.specs.Layout.{kind_field, path_field}
+use Rattle.words.specs.Layout.{path_field}
 use Rattle.words.specs.Words.{meaning}
 
 -- ---- one word

@@ -1,9 +1,9 @@
 -- The suspect sets are what they should be, in order.
-use Rattle.std.proofs.Common.{◌≡◌, ℕ, zero, suc, ◌+◌, ◌^◌, ◌<◌, ◌≤◌, Bool, true, false, eqb, ◌⊎◌, List, [], ◌∷◌, ◌++◌, length, get_or, filter, sym, refl, ap, ◌∙◌, subst, inl, inr, ⊎_elim, arith}
+use Rattle.std.proofs.Common.{◌≡◌, ℕ, zero, suc, ◌^◌, ◌<◌, ◌≤◌, eqb, filter, sym, ◌∙◌, inl, inr, ⊎_elim, arith}
 use lib.Count.{ones}
 use Rattle.std.specs.List.{range_with_len}
 use Rattle.std.proofs.lemmas.Bool.{eqb-true, eq-eqb, cases_eq}
-use Rattle.sites.specs.Lists.{In, Distinct}
+use Rattle.sites.specs.Lists.{In}
 use Rattle.sites.specs.Suspects.{sized, suspects, Before, SuspectsLaw}
 use Rattle.sites.proofs.Lists.{in_left, in_right, in_append, in_kept, kept_in, in_counting, counting_below, Sorted, sorted_at, sorted_distinct, sorted_weaker, sorted_append, sorted_kept, sorted_counting}
 

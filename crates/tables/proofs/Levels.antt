@@ -1,7 +1,6 @@
 -- What is walked for a site is what it expects.
-use Rattle.std.proofs.Common.{◌≡◌, ℕ, zero, suc, ◌+◌, ◌-◌, ◌*◌, ◌/◌, ◌^◌, ◌<◌, ◌≤◌, Bool, true, false, cond, not, ◌&&◌, ◌||◌, eqb, ltb, List, [], ◌∷◌, ◌++◌, map, length, get_or, filter, sym, refl, ap, ◌∙◌, ⊎_elim, append_assoc, append-nil, arith, length-append}
-use Rattle.std.specs.List.{range_with_len}
-use Rattle.std.proofs.lemmas.Bool.{cases_eq, cases_lt, and_parts, and_from, and_left, and_right, eq-eqb, ne_eqb, lt-ltb, le-ltb, not_from_false, not_from_true, both_ways, eqb-true, eqb-false}
+use Rattle.std.proofs.Common.{◌≡◌, ℕ, zero, suc, ◌+◌, ◌-◌, ◌*◌, ◌/◌, ◌^◌, ◌<◌, ◌≤◌, Bool, true, false, cond, not, ◌&&◌, ◌||◌, eqb, ltb, List, [], ◌∷◌, ◌++◌, map, length, filter, sym, refl, ap, ◌∙◌, ⊎_elim, append_assoc, append-nil, arith, length-append}
+use Rattle.std.proofs.lemmas.Bool.{cases_eq, cases_lt, and_parts, and_from, and_left, and_right, eq-eqb, ne_eqb, lt-ltb, le-ltb, not_from_false, not_from_true, eqb-true, eqb-false}
 use Rattle.sites.specs.Sets.{in_set, others}
 use Rattle.sites.specs.Lists.{has, front, final, join_all}
 use Rattle.sites.proofs.Lists.{front_push, final_push}
@@ -11,7 +10,6 @@ use Rattle.theory.specs.Network.{Network}
 use Rattle.theory.specs.Flooding.{goes_on, longer, paths, expected}
 use Rattle.tables.specs.Wirings.{wired}
 use Rattle.tables.specs.Entries.{path_word, entry_of}
-use Rattle.tables.specs.Joins.{join_from}
 use Rattle.tables.specs.Steps.{can_go, gone_on, walks, root}
 use Rattle.tables.specs.declared.expected_path.ExpectedPath.{ExpectedPath}
 use Rattle.tables.specs.declared.step.Step.{Step}

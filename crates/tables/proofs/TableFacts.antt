@@ -1,6 +1,6 @@
 -- What the parts of a table are.
-use Rattle.std.proofs.Common.{◌≡◌, ℕ, zero, suc, ◌+◌, ◌-◌, ◌<◌, ◌≤◌, List, [], ◌∷◌, ◌++◌, map, length, get_or, take, sym, refl, ap, ◌∙◌, subst, ⊎_elim, append_assoc, append-nil, arith, length-append}
-use Rattle.std.proofs.lemmas.List.{map-append, length-map, length-take-le, get_or-take, take-take, take_at, get_or-map}
+use Rattle.std.proofs.Common.{◌≡◌, ℕ, zero, suc, ◌+◌, ◌-◌, ◌<◌, ◌≤◌, List, [], ◌++◌, map, length, get_or, take, sym, refl, ap, ◌∙◌, subst, ⊎_elim, append_assoc, append-nil, arith, length-append}
+use Rattle.std.proofs.lemmas.List.{map-append, length-map, get_or-take, take-take, take_at, get_or-map}
 use Rattle.std.proofs.lemmas.Bool.{cases_lt}
 use Rattle.sites.specs.Lists.{In}
 use Rattle.theory.specs.Network.{Network}
@@ -9,7 +9,7 @@ use Rattle.theory.proofs.Paths.{up_to_in}
 use Rattle.notebooks.specs.Laws.{Carried}
 use Rattle.notebooks.proofs.Floods.{expected_carried}
 use Rattle.tables.specs.Wirings.{wired}
-use Rattle.tables.specs.Entries.{path_word, entry_of, no_entry}
+use Rattle.tables.specs.Entries.{entry_of, no_entry}
 use Rattle.tables.specs.Tables.{table_level, table_paths}
 use Rattle.tables.specs.declared.expected_path.ExpectedPath.{ExpectedPath}
 use Rattle.tables.specs.declared.table.PathTable.{PathTable}

@@ -1,5 +1,4 @@
-use Rattle.std.proofs.Common.{◌≡◌, ℕ, ◌+◌, ◌^◌, ◌<◌, Bool, sym, ap, ◌∙◌, arith}
-use Rattle.sites.specs.Sets.{mask_of}
+use Rattle.std.proofs.Common.{ℕ, ◌+◌, ◌^◌, Bool, sym, ap, ◌∙◌, arith}
 use Rattle.sites.proofs.Sets.{mask_of_below}
 use Rattle.tables.proofs.MaskSums.{mask_add, mask_skip, mask_none}
 use Rattle.tables.proofs.wirings.hearers.Goals as goal

@@ -1,6 +1,6 @@
-use Rattle.std.proofs.Common.{◌≡◌, ◌+◌, ◌<◌, ◌≤◌, [], ◌∷◌, ◌++◌, length, get_or, take, set, sym, refl, ap, ◌∙◌, subst, arith}
+use Rattle.std.proofs.Common.{◌≡◌, ◌+◌, ◌<◌, ◌≤◌, [], length, get_or, set, sym, ap, ◌∙◌, subst, arith}
 use Rattle.std.proofs.lemmas.List.{length-set, length-take-le}
-use Rattle.airs.specs.Runs.{Sited, Filed, pair_of, run_lanes}
+use Rattle.airs.specs.Runs.{Sited, Filed, run_lanes}
 use Rattle.airs.specs.Strips.{strip_run}
 use Rattle.airs.proofs.Runs.{run_push, sited_push, filed_push, sum_more, set_keeps}
 use Rattle.airs.proofs.Strips.{counted, free, pushed}

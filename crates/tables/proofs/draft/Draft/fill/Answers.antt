@@ -1,10 +1,10 @@
-use Rattle.std.proofs.Common.{◌≡◌, ℕ, ◌+◌, ◌-◌, ◌<◌, ◌≤◌, ◌≢◌, List, map, length, get_or, sym, ap, ◌∙◌, subst, arith, below_more}
+use Rattle.std.proofs.Common.{◌≡◌, ℕ, ◌+◌, ◌-◌, ◌<◌, ◌≢◌, List, map, length, get_or, ap, ◌∙◌, arith, below_more}
 use Rattle.std.proofs.lemmas.List.{get_or-set_same, get_or-set_other, length-map}
 use Rattle.theory.specs.Network.{Network}
 use Rattle.theory.specs.Flooding.{expected_up_to}
 use Rattle.tables.specs.Wirings.{wired}
 use Rattle.tables.specs.Entries.{entry_of}
-use Rattle.tables.specs.Drafts.{drafted, Lists}
+use Rattle.tables.specs.Drafts.{drafted}
 use Rattle.tables.proofs.Listed.{level_more, level_room}
 use Rattle.tables.proofs.draft.Draft.fill.Goals as goal
 

@@ -1,4 +1,4 @@
-use Rattle.std.proofs.Common.{◌≡◌, sym, ap, ◌∙◌}
+use Rattle.std.proofs.Common.{◌∙◌}
 use Rattle.words.specs.Words.{sites_of, meaning_of}
 use Rattle.tables.specs.Tables.{table_paths}
 use Rattle.tables.proofs.Found.{found_by_word, no_word}

@@ -1,4 +1,4 @@
-use Rattle.std.proofs.Common.{◌≡◌, take, ap, ◌∙◌}
+use Rattle.std.proofs.Common.{take, ap, ◌∙◌}
 use Rattle.tables.proofs.TableFacts.{front_paths}
 use Rattle.tables.proofs.table.PathTable.up_to.Goals as goal
 

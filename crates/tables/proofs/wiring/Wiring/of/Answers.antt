@@ -1,4 +1,4 @@
-use Rattle.std.proofs.Common.{◌≡◌, ℕ, ◌+◌, ◌^◌, ◌<◌, length, get_or, sym, refl, ap, ◌∙◌, subst, arith, pow_pos}
+use Rattle.std.proofs.Common.{ℕ, ◌^◌, ◌<◌, length, sym, refl, ap, ◌∙◌, arith, pow_pos}
 use Rattle.std.proofs.lemmas.List.{length-set}
 use Rattle.sites.specs.Sets.{in_set, mask_of}
 use Rattle.sites.proofs.Sets.{mask_of_below, in_set_mask_of}

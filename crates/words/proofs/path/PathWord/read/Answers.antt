@@ -1,4 +1,4 @@
-use Rattle.std.proofs.Common.{◌≡◌, sym, refl, ap, ◌∙◌, arith, rules}
+use Rattle.std.proofs.Common.{sym, refl, ◌∙◌, arith, rules}
 use Rattle.std.proofs.lemmas.Bool.{and_from}
 use Rattle.words.proofs.Codec.{read_ok, word_back, same_word}
 use Rattle.words.proofs.path.PathWord.read.Goals as goal
