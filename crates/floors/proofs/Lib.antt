@@ -1,3 +1,5 @@
+pub mod FanWords
+pub mod Fitted
 pub mod Six
 pub mod Seen
 pub mod Turns

@@ -6,10 +6,15 @@ use Rattle.sites.specs.Lists.{same_path}
 use Rattle.sites.proofs.Lists.{same_path_refl, same_path_true}
 use Rattle.theory.specs.Network.{Network}
 use Rattle.theory.specs.Flooding.{expected}
+use Rattle.plans.specs.Plans.{network}
+use Rattle.plans.proofs.Wholes.{plan_sites}
+use Rattle.tables.specs.Tables.{network_of}
+use Rattle.tables.specs.Wirings.{SameEdges}
 use Rattle.tables.specs.declared.table.PathTable.{PathTable}
-use Rattle.site_plans.specs.declared.site_plan.SitePlan.{SitePlan}
-use Rattle.site_plans.specs.Tables.{site_network, Fits}
-use Rattle.floors.specs.Tables.{table_site, table_count, level_at, same_paths}
+use Rattle.tables.specs.declared.wiring.Wiring.{Wiring}
+use Rattle.floors.specs.declared.site_plan.SitePlan.{SitePlan}
+use Rattle.tables.proofs.Edges.{edges_law}
+use Rattle.floors.specs.Tables.{site_network, table_site, table_count, level_at, same_paths, Fits}
 
 pub six_cases : (P : ℕ → Type 0) → P 0 → P 1 → P 2 → P 3 → P 4 → P 5 → (s : ℕ) → s < 6 → P s
 six_cases P a b c d e f zero l = a
@@ -33,6 +38,14 @@ same_paths_true (p ∷ ps) (q ∷ qs) e =
     let a = same_path_true p q h.0 in
     let b = same_paths_true ps qs h.1 in cc
 
+pub base_few : (p : SitePlan) → (site_network p).n ≤ 6
+unfolding network
+base_few p = (plan_sites p.plan).1
+
+pub base_some : (p : SitePlan) → 2 ≤ (site_network p).n
+unfolding network
+base_some p = (plan_sites p.plan).0
+
 pub table_fits : (p : SitePlan) (ts : List PathTable) (s : ℕ) (d : PathTable) → length ts ≡ 6 → s < (site_network p).n → s < 6 → get_or (map table_site ts) s 0 ≡ s →
     get_or (map table_count ts) s 0 ≡ (site_network p).n → ((k : ℕ) → same_paths (get_or (map (level_at k) ts) s []) (expected (site_network p) s k) ≡ true) →
     Fits (site_network p) s (get_or ts s d)
@@ -41,11 +54,16 @@ table_fits p ts s d six below lt placed counted listed =
     record {
       site = sym (get_or-map table_site ts s d 0 l) ∙ placed;
       count = sym (get_or-map table_count ts s d 0 l) ∙ counted;
-      levels = λ inside k. sym (get_or-map (level_at k) ts s d [] l) ∙ same_paths_true _ _ (listed k);
-      none = λ past k. absurd (omega arith);
+      levels = λ k. sym (get_or-map (level_at k) ts s d [] l) ∙ same_paths_true _ _ (listed k);
     }
 
--- what the table of a site is known by in the floor's tables
-module _ (N : Network) (t : PathTable) (s : ℕ) (fits : Fits N s t) where
-  pub level_same : (k : ℕ) → s < N.n → same_paths (level_at k t) (expected N s k) ≡ true
-  level_same k l = ap (λ (ps : List (List ℕ)). same_paths ps (expected N s k)) (fits.levels l k) ∙ same_paths_refl (expected N s k)
+-- a table made from a wiring with the network's sites and edges
+module _ (N : Network) (w : Wiring) (t : PathTable) (s : ℕ) (same : SameEdges N (network_of w)) (from : t.wiring ≡ w) (at : t.site ≡ s) where
+  pub made_count : table_count t ≡ N.n
+  made_count = ap (λ (x : Wiring). x.n) from ∙ sym same.sites
+
+  pub made_level : (k : ℕ) → s < N.n → same_paths (level_at k t) (expected N s k) ≡ true
+  made_level k l =
+      let e : level_at k t ≡ expected N s k =
+      ap (λ (x : Wiring). expected (network_of x) t.site k) from ∙ ap (λ (v : ℕ). expected (network_of w) v k) at ∙ sym (edges_law N (network_of w) s k same l).0 in
+      ap (λ (ps : List (List ℕ)). same_paths ps (expected N s k)) e ∙ same_paths_refl (expected N s k)

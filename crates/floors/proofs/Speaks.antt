@@ -12,18 +12,23 @@ use Rattle.runs.specs.State.{State, SiteRecord, blank, site, over, round}
 use Rattle.runs.specs.Replies.{speech, as_spoken, speak_reply, speak_next, spoken_by}
 use Rattle.runs.proofs.Accepted.{for_sound_is}
 use Rattle.rounds.specs.Speaking.{put_all_reply, put_all_next}
-use Rattle.site_plans.specs.Tables.{Fits}
+use Rattle.floors.specs.Tables.{Fits}
 use Rattle.floors.specs.Views.{owed_by}
-use Rattle.site_plans.proofs.Fitted.{owed_fits}
+use Rattle.floors.proofs.Fitted.{owed_fits}
 
 pub set_kept : {X : Type 0} (r : Result ℕ Refusal) (xs : List X) (s : ℕ) (y d : X) → set xs s (kept r y (get_or xs s d)) ≡ kept r (set xs s y) xs
 set_kept (Ok k) xs s y d = refl
 set_kept (Err e) xs s y d = set-get_or xs s d
 
-put_all_is : (size : ℕ) (ls : Lanes) (s : ℕ) (ws : List ℕ) → s < 6 → put_all_reply size ls s ws ≡ cond (ltb size (count_of ls s + length ws)) (Err LaneFull) (Ok (length ws))
-put_all_is size ls s ws l =
+room : (size count len : ℕ) → count ≤ size → ltb (size - count) len ≡ ltb size (count + len)
+room size count len l = grind (arith, nat_tests)
+
+put_all_is : (size : ℕ) (ls : Lanes) (s : ℕ) (ws : List ℕ) → s < 6 → count_of ls s ≤ size →
+    put_all_reply size ls s ws ≡ cond (ltb size (count_of ls s + length ws)) (Err LaneFull) (Ok (length ws))
+put_all_is size ls s ws l h =
     let six : leb 6 s ≡ false = grind (arith, nat_tests) in
-    ap (λ (b : Bool). cond b (Err NoSite) (cond (ltb size (count_of ls s + length ws)) (Err LaneFull) (Ok (length ws)))) six
+    ap (λ (b : Bool). cond b (Err NoSite) (cond (ltb (size - count_of ls s) (length ws)) (Err LaneFull) (Ok (length ws)))) six
+    ∙ ap (λ (b : Bool). cond b (Err LaneFull) (Ok (length ws))) (room size (count_of ls s) (length ws) h)
 
 both_kept : (r : Result ℕ Refusal) (N : Network) (rogues turns : ℕ) (a b : List SiteRecord) (x y : Lanes) →
     ◌≡◌ {A = State} (record { net = N; rogues = rogues; records = kept r a b; lanes = kept r x y; turns = turns })
@@ -32,17 +37,17 @@ both_kept (Ok k) N rogues turns a b x y = refl
 both_kept (Err e) N rogues turns a b x y = refl
 
 module _ (size : ℕ) (st : State) (s : ℕ) (t : PathTable) (R : Result ℕ Refusal) (small : st.net.n ≤ 6) (sound : Sound st.net st.rogues s)
-    (not-over : over st ≡ false) (silent : (site st s).spoken ≡ false) (fits : Fits st.net s t)
+    (not-over : over st ≡ false) (silent : (site st s).spoken ≡ false) (within : count_of st.lanes s ≤ size) (fits : Fits st.net s t)
     (is : R ≡ put_all_reply size st.lanes t.site (owed_by t (round st) (site st s))) where
   same_words : owed_by t (round st) (site st s) ≡ speech st s
-  same_words = owed_fits st.net s t fits sound.0 (round st) (site st s).holds (site st s).notebook
+  same_words = owed_fits st.net s t fits (round st) (site st s).holds (site st s).notebook
 
   by_network : put_all_reply size st.lanes t.site (owed_by t (round st) (site st s)) ≡ put_all_reply size st.lanes s (speech st s)
   by_network = ap (λ (v : ℕ). put_all_reply size st.lanes v (owed_by t (round st) (site st s))) fits.site ∙ ap (put_all_reply size st.lanes s) same_words
 
   pub spoken_answer : R ≡ speak_reply size st s
   spoken_answer =
-      is ∙ by_network ∙ put_all_is size st.lanes s (speech st s) (omega (arith, sound.0))
+      is ∙ by_network ∙ put_all_is size st.lanes s (speech st s) (omega (arith, sound.0)) within
       ∙ sym (for_sound_is st s _ sound
       ∙ ap (λ (b : Bool). cond b (Err Over) (cond (site st s).spoken (Err Spoken) (cond (ltb size (count_of st.lanes s + length (speech st s))) (Err LaneFull) (Ok (length (speech st s)))))) not-over
       ∙ ap (λ (b : Bool). cond b (Err Spoken) (cond (ltb size (count_of st.lanes s + length (speech st s))) (Err LaneFull) (Ok (length (speech st s))))) silent)

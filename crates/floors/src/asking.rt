@@ -1,4 +1,4 @@
-ghost use Rattle.std.specs.Prelude.{◌≡◌, ◌/◌, ◌<◌, ◌≤◌, Ok, nat_le};
+ghost use Rattle.std.specs.Prelude.{◌≡◌, ◌≤◌, Ok};
 ghost use Rattle.runs.specs.State.{over, phase, round};
 ghost use Rattle.runs.specs.Replies.{for_sound, held_reply, decision_reply};
 ghost use Rattle.floors.specs.Views.{view, plan_sheet};
@@ -6,14 +6,6 @@ ghost use Rattle.floors.specs.Views.{view, plan_sheet};
 use crate::floor::Floor;
 use airs::Air;
 use sites::Refusal;
-
-// Whether so many phases are over after some turns, where a phase has so many rounds.
-fn are_over(phases: usize, turns: usize, rounds: usize) -> bool
-    requires { 0 < rounds }
-    ensures { result ≡ nat_le phases (turns / rounds) }
-{
-    turns / rounds >= phases
-}
 
 impl<A: Air> Floor<A> {
     // How many sites there are.
@@ -30,7 +22,7 @@ impl<A: Air> Floor<A> {
         ensures { result ≡ over (view A.lanes self.now) }
     {
         let rounds = self.site_count() as usize - 1;
-        are_over(self.ground.base.phases(), self.turns, rounds)
+        self.turns / rounds >= self.ground.base.plan.suspect_count()
     }
 
     /// The phase, counted from 0, that the next turn is in.

@@ -1,9 +1,8 @@
 ghost use Rattle.std.specs.Prelude.{◌≡◌, ℕ, ◌<◌, true, [], map, length, slice_index, slice_index_or};
 ghost use Rattle.theory.specs.Flooding.{expected};
-ghost use Rattle.site_plans.specs.Tables.{site_network};
-ghost use Rattle.floors.specs.Tables.{table_site, table_count, level_at, same_paths};
+ghost use Rattle.floors.specs.Tables.{site_network, table_site, table_count, level_at, same_paths};
 
-use site_plans::SitePlan;
+use crate::site_plan::SitePlan;
 use tables::PathTable;
 
 /// What a floor was opened on: a copy of the plan and, for each site, the table of the paths along which it expects a

@@ -1,10 +1,10 @@
 ghost use Rattle.std.specs.Prelude.{◌≡◌, ◌<◌};
-ghost use Rattle.site_plans.specs.Tables.{site_network, Fits};
+ghost use Rattle.floors.specs.Tables.{site_network, Fits};
 
 use crate::ground::Ground;
+use crate::site_plan::SitePlan;
 use plans::Plan;
-use site_plans::SitePlan;
-use tables::PathTable;
+use tables::{PathTable, Wiring};
 
 impl Ground {
     // A plan with its tables.
@@ -12,13 +12,14 @@ impl Ground {
         ensures { result.base.plan ≡ plan.now }
     {
         let base = SitePlan { plan: *plan };
+        let wiring = Wiring::of(&base);
         let tables = [
-            base.table(0),
-            base.table(1),
-            base.table(2),
-            base.table(3),
-            base.table(4),
-            base.table(5),
+            PathTable::of(&wiring, 0),
+            PathTable::of(&wiring, 1),
+            PathTable::of(&wiring, 2),
+            PathTable::of(&wiring, 3),
+            PathTable::of(&wiring, 4),
+            PathTable::of(&wiring, 5),
         ];
         Ground { base, tables }
     }

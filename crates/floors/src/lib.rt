@@ -12,7 +12,10 @@ mod putting;
 mod recalling;
 mod record;
 mod records;
+mod routing;
+mod site_plan;
 mod speaking;
 mod turning;
 
 pub use floor::Floor;
+pub use site_plan::SitePlan;

@@ -62,6 +62,9 @@ impl<A: Air> Floor<A> {
         if self.records.has_spoken(site) {
             return Err(Refusal::Spoken);
         }
+        if self.air.count(site) > self.air.lane_size() {
+            return Err(Refusal::LaneFull);
+        }
         let round = self.round();
         self.records
             .speak(&mut self.air, self.ground.table(site), site, round)

@@ -1,6 +1,6 @@
 -- What a notebook shows.
-use Rattle.std.proofs.Common.{◌≡◌, ℕ, zero, suc, ◌+◌, ◌-◌, ◌%◌, ◌<◌, ◌≤◌, Bool, true, false, cond, ◌||◌, eqb, List, [], ◌∷◌, ◌++◌, map, length, get_or, take, drop, replicate, Some, None, sym, refl, ap, ◌∙◌, subst, inl, inr, ⊎_elim, append_assoc, arith}
-use Rattle.std.proofs.lemmas.List.{map-append, length-map, length-append, length-replicate, get_or_at, take_at, drop_at, drop-drop, drop-replicate}
+use Rattle.std.proofs.Common.{◌≡◌, ℕ, zero, suc, ◌+◌, ◌-◌, ◌%◌, ◌<◌, ◌≤◌, Bool, true, false, cond, ◌||◌, eqb, List, [], ◌∷◌, ◌++◌, map, length, take, drop, replicate, Some, None, sym, refl, ap, ◌∙◌, subst, inl, inr, ⊎_elim, append_assoc, arith}
+use Rattle.std.proofs.lemmas.List.{map-append, length-map, length-append, length-replicate, length-take, take_at, drop_at, drop-drop, drop-replicate}
 use Rattle.std.proofs.lemmas.Bool.{eq-eqb, ne_eqb, or_left, or_right, cases_Bool, cond-true, cond-false}
 use Rattle.sites.specs.Lists.{In, same_path}
 use Rattle.sites.proofs.Lists.{map_same, same_path_refl, same_path_true}
@@ -9,7 +9,7 @@ use Rattle.theory.specs.Flooding.{expected, expected_up_to, words_for}
 use Rattle.theory.proofs.Counts.{expected_fits, all_fit}
 use Rattle.theory.proofs.Paths.{in_up_to}
 use Rattle.notebooks.specs.Floods.{flood_word}
-use Rattle.notebooks.specs.Notebooks.{pages, empty_book, filled, flood_words, shown, first_place, note_round, noted_words, round_words, owed_words, listed, place, bit_at, noted, or_one, told_by}
+use Rattle.notebooks.specs.Notebooks.{pages, empty_book, filled, flood_words, shown, first_place, note_round, round_words, owed_words, listed, place, bit_at, noted, or_one, told_by}
 use Rattle.notebooks.specs.Laws.{NotebookLaw}
 
 -- ---- flood words for some paths
@@ -69,44 +69,26 @@ module _ (N : Network) (v : ℕ) (hear : List ℕ → Bool) where
       let one : suc r ≡ r + 1 = omega arith in
       subst (λ (k : ℕ). note_round N v k hear (shown N v r hear) ≡ shown N v k hear) one (more r)
 
+  pub shown_round : (r : ℕ) → round_words N v r (shown N v r hear) ≡ flood_words hear (expected N v r)
+  unfolding round_words shown expected_up_to expected flood_words
+  shown_round zero = refl
+  shown_round (suc k) =
+      let A : List ℕ = flood_words hear (expected_up_to N v k) in
+      let E : List ℕ = flood_words hear (expected N v (suc k)) in
+      let whole : List ℕ = flood_words hear (expected_up_to N v k ++ expected N v (suc k)) in
+      let R : List ℕ = replicate (pages - length whole) 0 in
+      let split : filled whole ≡ A ++ (E ++ R) = ap (λ (x : List ℕ). x ++ R) (words_append hear (expected_up_to N v k) (expected N v (suc k))) ∙ append_assoc A E R in
+      ap (λ (j : ℕ). take (length (expected N v (suc k))) (drop (length (expected_up_to N v j)) (filled whole))) (before k)
+      ∙ ap (λ (x : List ℕ). take (length (expected N v (suc k))) (drop (length (expected_up_to N v k)) x)) split
+      ∙ ap (take (length (expected N v (suc k)))) (drop_at A (E ++ R) (length (expected_up_to N v k)) (length_words hear (expected_up_to N v k)))
+      ∙ take_at E R (length (expected N v (suc k))) (length_words hear (expected N v (suc k)))
+
 -- ---- the bit of a path
 
 flood_bit : (p : List ℕ) (b : Bool) → eqb (flood_word (record { path = p; bit = b }) % 2) 1 ≡ b
 unfolding flood_word
 flood_bit p true = eq-eqb _ 1 (omega arith)
 flood_bit p false = ne_eqb _ 1 (λ e. omega arith)
-
--- words noted behind others are read back
-noted_back : (hear : List ℕ → Bool) (qs : List (List ℕ)) (before rest : List ℕ) (i : ℕ) → i ≡ length before → noted_words (before ++ (flood_words hear qs ++ rest)) i qs ≡ flood_words hear qs
-unfolding flood_words
-noted_back hear [] before rest i at = refl
-noted_back hear (q ∷ qs) before rest i at =
-    let w : ℕ = flood_word (record { path = q; bit = hear q }) in
-    let later : List ℕ = flood_words hear qs ++ rest in
-    let here : get_or (before ++ (w ∷ later)) i 0 ≡ w = get_or_at before w later 0 i (sym at) in
-    let bit : bit_at (before ++ (w ∷ later)) i ≡ hear q = ap (λ (x : ℕ). eqb (x % 2) 1) here ∙ flood_bit q (hear q) in
-    let moved : before ++ (w ∷ later) ≡ (before ++ w ∷ []) ++ later = sym (append_assoc before (w ∷ []) later) in
-    let next : i + 1 ≡ length (before ++ w ∷ []) = omega (arith, length-append before (w ∷ [])) in
-    ap (λ (b : Bool). flood_word (record { path = q; bit = b }) ∷ noted_words (before ++ (w ∷ later)) (i + 1) qs) bit
-    ∙ ap (λ (x : List ℕ). w ∷ noted_words x (i + 1) qs) moved
-    ∙ ap (λ (x : List ℕ). w ∷ x) (noted_back hear qs (before ++ w ∷ []) rest (i + 1) next)
-
-pub length_noted : (book : List ℕ) (i : ℕ) (qs : List (List ℕ)) → length (noted_words book i qs) ≡ length qs
-length_noted book i [] = refl
-length_noted book i (q ∷ qs) = ap suc (length_noted book (i + 1) qs)
-
-pub shown_round : (N : Network) (v : ℕ) (hear : List ℕ → Bool) (r : ℕ) → round_words N v r (shown N v r hear) ≡ flood_words hear (expected N v r)
-unfolding round_words shown expected_up_to expected flood_words
-shown_round N v hear zero = refl
-shown_round N v hear (suc k) =
-    let A : List ℕ = flood_words hear (expected_up_to N v k) in
-    let E : List ℕ = flood_words hear (expected N v (suc k)) in
-    let whole : List ℕ = flood_words hear (expected_up_to N v k ++ expected N v (suc k)) in
-    let R : List ℕ = replicate (pages - length whole) 0 in
-    let split : filled whole ≡ A ++ (E ++ R) = ap (λ (x : List ℕ). x ++ R) (words_append hear (expected_up_to N v k) (expected N v (suc k))) ∙ append_assoc A E R in
-    ap (λ (j : ℕ). noted_words (filled whole) (length (expected_up_to N v j)) (expected N v (suc k))) (before k)
-    ∙ ap (λ (x : List ℕ). noted_words x (length (expected_up_to N v k)) (expected N v (suc k))) split
-    ∙ noted_back hear (expected N v (suc k)) A R (length (expected_up_to N v k)) (sym (length_words hear (expected_up_to N v k)))
 
 word_at : (hear : List ℕ → Bool) (qs : List (List ℕ)) (rest p : List ℕ) → listed p qs ≡ true → bit_at (flood_words hear qs ++ rest) (place p qs) ≡ hear p
 unfolding flood_words
@@ -148,9 +130,9 @@ pub put_few : (N : Network) (v r : ℕ) (held : Bool) (book : List ℕ) → N.n 
 unfolding owed_words round_words
 put_few N v r held book small below = at (eqb r 1)
   where
-    at : (b : Bool) → length (cond b (flood_word (record { path = []; bit = held }) ∷ []) (noted_words book (first_place N v (r - 1)) (expected N v (r - 1)))) ≤ 120
+    at : (b : Bool) → length (cond b (flood_word (record { path = []; bit = held }) ∷ []) (take (length (expected N v (r - 1))) (drop (first_place N v (r - 1)) book))) ≤ 120
     at true = omega arith
-    at false = omega (arith, length_noted book (first_place N v (r - 1)) (expected N v (r - 1)), expected_fits N v below small (r - 1))
+    at false = omega (arith, length-take (length (expected N v (r - 1))) (drop (first_place N v (r - 1)) book), expected_fits N v below small (r - 1))
 
 pub notebook_law : NotebookLaw
 unfolding flood_words

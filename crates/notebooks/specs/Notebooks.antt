@@ -1,5 +1,5 @@
 -- A notebook: a flood word for each expected path that was heard, by length, then ascending; zeros behind them.
-use Rattle.std.specs.Prelude.{ℕ, suc, ◌+◌, ◌-◌, ◌%◌, Bool, true, false, cond, ◌||◌, List, [], ◌∷◌, ◌++◌, map, length, take, drop, replicate, Some, None, Option, ◌==◌, slice_index}
+use Rattle.std.specs.Prelude.{ℕ, suc, ◌-◌, ◌%◌, Bool, true, false, cond, ◌||◌, List, [], ◌∷◌, ◌++◌, map, length, take, drop, replicate, Some, None, Option, ◌==◌, slice_index}
 use Rattle.sites.specs.Lists.{same_path}
 use Rattle.theory.specs.Network.{Network}
 use Rattle.theory.specs.Flooding.{expected, expected_up_to, words_for}
@@ -33,22 +33,9 @@ first_place N v r = length (expected_up_to N v (r - 1))
 unfoldable pub note_round : Network → ℕ → ℕ → (List ℕ → Bool) → List ℕ → List ℕ
 note_round N v r hear book = take (first_place N v r) book ++ (flood_words hear (expected N v r) ++ drop (length (expected_up_to N v r)) book)
 
--- a notebook of v after round r of a phase was heard: the first round begins with an empty one
-abbrev pub take_round : Network → ℕ → ℕ → (List ℕ → Bool) → List ℕ → List ℕ
-take_round N v r hear book = note_round N v r hear (cond (r == 1) empty_book book)
-
--- the bit noted at a place: the last bit of the word that stands there; no more of a word counts
-abbrev pub bit_at : List ℕ → ℕ → Bool
-bit_at book i = slice_index book i % 2 == 1
-
--- a flood word for each of some paths, with the bits noted from a place on
-abbrev pub noted_words : List ℕ → ℕ → List (List ℕ) → List ℕ
-noted_words book i [] = []
-noted_words book i (p ∷ ps) = flood_word (record { path = p; bit = bit_at book i }) ∷ noted_words book (i + 1) ps
-
--- a flood word for each path of r sites, with the bit that a notebook of v has at its place
+-- the words of the paths of r sites in a notebook of v
 unfoldable pub round_words : Network → ℕ → ℕ → List ℕ → List ℕ
-round_words N v r book = noted_words book (first_place N v r) (expected N v r)
+round_words N v r book = take (length (expected N v r)) (drop (first_place N v r) book)
 
 -- what v puts in round r, counted from 1: in round 1 the empty path with the bit that it holds, later what it noted along the paths of r - 1 sites
 unfoldable pub owed_words : Network → ℕ → ℕ → Bool → List ℕ → List ℕ
@@ -63,6 +50,10 @@ listed p (q ∷ qs) = same_path q p || listed p qs
 abbrev pub place : List ℕ → List (List ℕ) → ℕ
 place p [] = 0
 place p (q ∷ qs) = cond (same_path q p) 0 (suc (place p qs))
+
+-- the bit noted at a place: the last bit of the word that stands there
+abbrev pub bit_at : List ℕ → ℕ → Bool
+bit_at book i = slice_index book i % 2 == 1
 
 -- The bit noted for a path in a notebook of v, when r rounds of a phase were heard: nothing for a path that is not expected, or is heard only in a later round.
 -- The place tells the path, and the rounds whether it was heard; no more of a word than its bit counts.

@@ -7,12 +7,13 @@ ghost use Rattle.sheets.specs.Refusals.{told};
 ghost use Rattle.plans.specs.Complete.{route_place, fan_place, keeping, routed, fanned, route_fault, missing_fan, judged};
 ghost use Rattle.plans.specs.Examples.{SheetExamples};
 
+use crate::keepers::{all_sets, keepers_of};
 use crate::places::{first_route, first_serving};
 use crate::suspects::{nth_set, set_count};
 use sheets::SheetRefusal;
 use sheets::fans::first_fan;
 use sheets::parts::{rogue_limit, site_count};
-use sites::{Refusal, SiteMask, keepers};
+use sites::{Refusal, SiteMask};
 
 // The refusal of a sheet in which a suspect set lacks something: its place is the set as a mask.
 fn refused_for(refusal: Refusal, bits: u32) -> SheetRefusal
@@ -65,14 +66,6 @@ fn routes(words: &[u32]) -> Result<(), SheetRefusal>
     Ok(())
 }
 
-// How many sets of n sites there are.
-fn all_sets(n: u8) -> u32
-    requires { n < 7 }
-    ensures { result ≡ 2 ^ n }
-{
-    1 << n
-}
-
 // Whether a site has a fan that avoids a set for each Z that puts it into B.
 fn is_fed(words: &[u32], start: usize, set: SiteMask, at: u8) -> bool
     requires { (site_count words.now < 7) × ((start ≡ fans_from words.now) × (0 < length words.now)) }
@@ -81,7 +74,7 @@ fn is_fed(words: &[u32], start: usize, set: SiteMask, at: u8) -> bool
     let n = site_count(words);
     let f = rogue_limit(words);
     for bits in 0..all_sets(n) {
-        let among = keepers(n, f, set, SiteMask { bits });
+        let among = keepers_of(n, f, set, SiteMask { bits });
         if !among.contains(at) && first_serving(words, start, set, at, among).is_none() {
             return false;
         }

@@ -1,6 +1,7 @@
 #![tactic(auto)]
 
 mod check;
+mod keepers;
 mod lookups;
 mod places;
 mod plan;

@@ -8,12 +8,13 @@ ghost use Rattle.plans.specs.Examples.{pair};
 ghost use Rattle.plans.specs.Plans.{sheet};
 ghost use Rattle.plans.specs.Taken.{are_joined, suspect?, route_taken, route_path, fan_taken, fan_words, set_at};
 
+use crate::keepers::keepers_of;
 use crate::places::{first_route, first_serving};
 use crate::plan::Plan;
 use crate::suspects::{nth_set, set_count};
 use sheets::fans::{first_fan, run_at};
 use sheets::parts;
-use sites::{SiteMask, keepers};
+use sites::SiteMask;
 use words::{Path, PathWord};
 
 // What a plan's sheet tells: the public calls answer the same of the plan's network.
@@ -109,7 +110,7 @@ impl Plan {
         requires { site_count (sheet self.now) ≤ 6 }
         ensures { result.bits ≡ keeping (sheet self.now) set.bits zeros.bits }
     {
-        keepers(self.told_sites(), self.told_rogues(), set, zeros)
+        keepers_of(self.told_sites(), self.told_rogues(), set, zeros)
     }
 
     // The place of the route taken.

@@ -3,7 +3,7 @@ use Rattle.std.proofs.Common.{◌≡◌, ℕ, ◌-◌, ◌<◌, Bool, cond, eqb,
 use Rattle.theory.specs.Network.{Network}
 use Rattle.theory.specs.Flooding.{expected, expected_up_to}
 use Rattle.notebooks.specs.Floods.{flood_word}
-use Rattle.notebooks.specs.Notebooks.{flood_words, note_round, noted_words, round_words, owed_words, listed, place, bit_at, noted, or_one, told_by}
+use Rattle.notebooks.specs.Notebooks.{flood_words, note_round, round_words, owed_words, listed, place, bit_at, noted, or_one, told_by}
 use Rattle.tables.specs.Wirings.{SameEdges}
 use Rattle.tables.proofs.Edges.{edges_law}
 use Rattle.rounds.specs.Laws.{AlikeLaw}
@@ -25,8 +25,8 @@ module _ (N M : Network) (v : ℕ) (same : SameEdges N M) (below : v < N.n) wher
   levels_are : (r : ℕ) (book : List ℕ) → round_words N v r book ≡ round_words M v r book
   unfolding round_words
   levels_are r book =
-      ap (noted_words book (length (expected_up_to N v (r - 1)))) (level r)
-      ∙ ap (λ (x : List (List ℕ)). noted_words book (length x) (expected M v r)) (all (r - 1))
+      ap (λ (x : List (List ℕ)). take (length x) (drop (length (expected_up_to N v (r - 1))) book)) (level r)
+      ∙ ap (λ (x : List (List ℕ)). take (length (expected M v r)) (drop (length x) book)) (all (r - 1))
 
   owing_is : (r : ℕ) (held : Bool) (book : List ℕ) → owed_words N v r held book ≡ owed_words M v r held book
   unfolding owed_words

@@ -2,7 +2,6 @@ pub mod Paths
 pub mod Words
 pub mod Scans
 pub mod Notes
-pub mod Spoken
 pub mod Owed
 pub mod Weighs
 pub mod Alike

@@ -7,7 +7,7 @@ use Rattle.airs.specs.Lanes.{Lanes, lane}
 use Rattle.theory.specs.Flooding.{Word, expected, expected_up_to, words_for}
 use Rattle.theory.specs.Network.{Network}
 use Rattle.notebooks.specs.Floods.{flood_word, floods, heard_in, first_of_two}
-use Rattle.notebooks.specs.Notebooks.{flood_words, note_round}
+use Rattle.notebooks.specs.Notebooks.{flood_words, note_round, round_words}
 use Rattle.notebooks.specs.Laws.{Carried}
 use Rattle.notebooks.proofs.Floods.{flood_two, first_word}
 use Rattle.tables.specs.Entries.{path_word, entry_of, no_entry}
@@ -51,7 +51,7 @@ module _ (ls : Lanes) (es : List ExpectedPath) where
 
 -- ---- the words noted
 
-pub with_bit : (p : List ℕ) (b : Bool) → cond b (path_word p + 1) (path_word p) ≡ flood_word (record { path = p; bit = b })
+with_bit : (p : List ℕ) (b : Bool) → cond b (path_word p + 1) (path_word p) ≡ flood_word (record { path = p; bit = b })
 with_bit p true = sym (flood_two p)
 with_bit p false = refl
 
@@ -75,7 +75,7 @@ notes_are ls ps all = joined ps ∙ map_same (λ p. note_of ls (entry_of p)) (λ
 
 -- ---- the levels of a table
 
-pub paths_split : (N : Network) (v r : ℕ) → expected_up_to N v r ≡ expected_up_to N v (r - 1) ++ expected N v r
+paths_split : (N : Network) (v r : ℕ) → expected_up_to N v r ≡ expected_up_to N v (r - 1) ++ expected N v r
 unfolding expected_up_to expected
 paths_split N v zero = refl
 paths_split N v (suc r) = let e : suc r - 1 ≡ r = omega arith in sym (ap (λ x. expected_up_to N v x ++ expected N v (suc r)) e)
@@ -125,3 +125,11 @@ module _ (t : PathTable) (r : ℕ) where
       let c : Carried p = table_carried t r p (get_or_in ps [] i inside) in
       let h : Hearable (entry_of p) = record { low_last = final_small p c.path; low_front = word_small (front p) (front_carried p c.path); low_word = word_small p c } in
       subst Hearable (sym same) h
+
+  -- the words noted for a level
+  pub round_part : (book : List ℕ) (start end : ℕ) → start ≡ length (table_paths t (r - 1)) → end ≡ length (table_paths t r) →
+      take (end - start) (drop start book) ≡ round_words (table_network t) t.site r book
+  unfolding round_words
+  round_part book start end at to =
+      let m : end - start ≡ length (table_level t r) = omega (arith, counts_rise t r) in
+      ap (λ x. take x (drop start book)) m ∙ ap (λ x. take (length (table_level t r)) (drop x book)) at

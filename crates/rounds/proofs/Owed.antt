@@ -1,5 +1,5 @@
 -- Putting all words or none, and the word of round 1.
-use Rattle.std.proofs.Common.{◌≡◌, ℕ, ◌+◌, ◌-◌, ◌^◌, ◌<◌, ◌≤◌, Bool, true, false, cond, eqb, List, [], ◌∷◌, length, sym, refl, ap, ◌∙◌, arith}
+use Rattle.std.proofs.Common.{◌≡◌, ℕ, ◌+◌, ◌-◌, ◌^◌, ◌<◌, ◌≤◌, Bool, true, false, cond, eqb, List, [], ◌∷◌, sym, refl, ap, ◌∙◌, arith}
 use Rattle.std.proofs.lemmas.Bool.{eq-eqb, ne_eqb}
 use Rattle.theory.specs.Network.{Network}
 use Rattle.notebooks.specs.Floods.{flood_word}
@@ -16,9 +16,6 @@ unfolding owed_words
 owed_first N v r held book w one is =
     ap (λ x. x ∷ []) (is ∙ sym (opening held))
     ∙ sym (ap (λ b. cond b (flood_word (record { path = []; bit = held }) ∷ []) (round_words N v (r - 1) book)) (eq-eqb r 1 one))
-
-pub owed_one : (N : Network) (v r : ℕ) (held : Bool) (book : List ℕ) → r ≡ 1 → 1 ≡ length (owed_words N v r held book)
-owed_one N v r held book one = ap length (owed_first N v r held book (cond held 0x10000001 0x10000000) one refl)
 
 pub owed_later : (N : Network) (v r k : ℕ) (held : Bool) (book : List ℕ) → (r ≡ 1 → ⊥) → k ≡ r - 1 → round_words N v k book ≡ owed_words N v r held book
 unfolding owed_words

@@ -1,28 +1,38 @@
-ghost use Rattle.std.specs.Prelude.{◌≡◌, ℕ, ◌+◌, ◌-◌, ◌^◌, ◌<◌, ◌≤◌, Bool, List, length, if◌then◌else◌};
+ghost use Rattle.std.specs.Prelude.{◌≡◌, ◌-◌, ◌<◌, ◌≤◌, length, if◌then◌else◌};
 ghost use Rattle.airs.specs.Lanes.{count_of, added};
 ghost use Rattle.notebooks.specs.Notebooks.{first_place, round_words, owed_words};
 ghost use Rattle.tables.specs.Tables.{table_network};
-ghost use Rattle.rounds.specs.Speaking.{with_room, put_all_reply, put_all_next};
+ghost use Rattle.rounds.specs.Speaking.{put_all_reply, put_all_next};
 
 use crate::notebook::Notebook;
 use airs::Air;
 use sites::Refusal;
-use tables::{ExpectedPath, PathTable};
+use tables::PathTable;
 
-// 21 for a site of 6 or more, 25 where its lane has no room for so many more words.
-fn room_for<A: Air>(air: &A, site: u8, count: usize) -> Result<(), Refusal>
-    ensures { result ≡ with_room A.size (A.lanes air.now) site count tt }
+// Puts some words in a lane that has room for all of them.
+fn put_each<A: Air>(air: &mut A, site: u8, words: &[u32])
+    requires { (site < 6) × (length words.now ≤ A.size - count_of (A.lanes air.old) site) }
+    ensures { A.lanes air.new ≡ added (A.lanes air.old) site words.now }
+{
+    for word in words {
+        let _ = air.put(site, *word);
+    }
+}
+
+// Puts all words or, where the lane has no room for all of them, none.
+fn put_all<A: Air>(air: &mut A, site: u8, words: &[u32]) -> Result<usize, Refusal>
+    ensures answer { result ≡ put_all_reply A.size (A.lanes air.old) site words.now }
+    ensures after { A.lanes air.new ≡ put_all_next A.size (A.lanes air.old) site words.now }
 {
     if site >= 6 {
         return Err(Refusal::NoSite);
     }
-    let Some(room) = air.lane_size().checked_sub(air.count(site)) else {
-        return Err(Refusal::LaneFull);
-    };
-    if count > room {
+    let room = air.lane_size().saturating_sub(air.count(site));
+    if words.len() > room {
         return Err(Refusal::LaneFull);
     }
-    Ok(())
+    put_each(air, site, words);
+    Ok(words.len())
 }
 
 // The place in a notebook of the first path of so many sites.
@@ -33,17 +43,6 @@ pub(crate) fn first_of_round(table: &PathTable, round: usize) -> usize
     table.count(round.saturating_sub(1))
 }
 
-// How many words the table's site owes in a round, whatever it noted.
-fn owed_count(table: &PathTable, round: usize) -> usize
-    ensures { (bit : Bool) (book : List ℕ) → result ≡ length (owed_words (table_network table.now) table.now.site round bit book) }
-{
-    if round == 1 {
-        return 1;
-    }
-    let k = round.saturating_sub(1);
-    table.count(k) - first_of_round(table, k)
-}
-
 // The flood word of the empty path with a bit.
 fn opening_word(bit: bool) -> u32
     ensures { result ≡ (if bit then 0x10000001 else 0x10000000) }
@@ -51,44 +50,19 @@ fn opening_word(bit: bool) -> u32
     if bit { 0x1000_0001 } else { 0x1000_0000 }
 }
 
-// The flood word of an expected path with a bit.
-fn with_bit(path: ExpectedPath, bit: bool) -> u32
-    requires { path.word < 2 ^ 32 - 1 }
-    ensures { result ≡ (if bit then path.word + 1 else path.word) }
-{
-    if bit { path.word + 1 } else { path.word }
-}
-
 impl Notebook {
-    // Puts a flood word for each path of k sites, with the bit noted for it, in a lane that has room for all of them.
-    fn put_noted<A: Air>(&self, air: &mut A, table: &PathTable, k: usize)
-        requires { (table.now.site < 6) × (count_of (A.lanes air.old) table.now.site + length (round_words (table_network table.now) table.now.site k self.now.words) ≤ A.size) }
-        ensures { A.lanes air.new ≡ added (A.lanes air.old) table.now.site (round_words (table_network table.now) table.now.site k self.now.words) }
+    /// The words noted for the paths of k sites.
+    pub fn round_words(&self, table: &PathTable, k: usize) -> &[u32]
+        ensures { result.now ≡ round_words (table_network table.now) table.now.site k self.now.words }
     {
-        let site = table.site();
+        let end = table.count(k);
         let start = first_of_round(table, k);
-        let paths = table.up_to(k);
-        for i in start..paths.len() {
-            let _ = air.put(site, with_bit(paths[i], self.bit_at(i)));
-        }
-    }
-
-    // Puts what the table's site owes in a round, in a lane that has room for it.
-    fn put_owed<A: Air>(&self, air: &mut A, table: &PathTable, round: usize, bit: bool)
-        requires { (table.now.site < 6) × (count_of (A.lanes air.old) table.now.site + length (owed_words (table_network table.now) table.now.site round bit self.now.words) ≤ A.size) }
-        ensures { A.lanes air.new ≡ added (A.lanes air.old) table.now.site (owed_words (table_network table.now) table.now.site round bit self.now.words) }
-    {
-        if round == 1 {
-            let _ = air.put(table.site(), opening_word(bit));
-        } else {
-            self.put_noted(air, table, round.saturating_sub(1));
-        }
+        &self.words[start..end]
     }
 
     /// Puts all that the table's site owes in a round, counted from 1, and answers how many words that are: in round 1
-    /// the empty path with the bit held, later a word for each path of one site less than the round's number, with the
-    /// bit noted for it. Refused with 21 for a site of 6 or more, and with 25 where the lane cannot take all of them; then
-    /// none is put.
+    /// the empty path with the bit held, later the words noted for the paths of one site less than the round's number.
+    /// Refused with 21 for a site of 6 or more, and with 25 where the lane cannot take all of them; then none is put.
     pub fn speak<A: Air>(
         &self,
         air: &mut A,
@@ -99,9 +73,13 @@ impl Notebook {
         ensures answer { result ≡ put_all_reply A.size (A.lanes air.old) table.now.site (owed_words (table_network table.now) table.now.site round bit self.now.words) }
         ensures after { A.lanes air.new ≡ put_all_next A.size (A.lanes air.old) table.now.site (owed_words (table_network table.now) table.now.site round bit self.now.words) }
     {
-        let count = owed_count(table, round);
-        room_for(air, table.site(), count)?;
-        self.put_owed(air, table, round, bit);
-        Ok(count)
+        if round == 1 {
+            return put_all(air, table.site(), &[opening_word(bit)]);
+        }
+        put_all(
+            air,
+            table.site(),
+            self.round_words(table, round.saturating_sub(1)),
+        )
     }
 }

@@ -1,4 +1,4 @@
-ghost use Rattle.std.specs.Prelude.{◌≡◌, true, map, is_some, if◌then◌else◌, Decides, nat_eq};
+ghost use Rattle.std.specs.Prelude.{◌≡◌, ◌-◌, ◌/◌, ◌^◌, true, map, is_some, if◌then◌else◌, Decides, bit_and, count_ones, nat_eq};
 ghost use Rattle.std.specs.List.{AllByRecursion};
 ghost use Rattle.sites.specs.Lists.{front};
 ghost use Rattle.sites.specs.Keepers.{keepers as keepers_by};
@@ -13,12 +13,53 @@ use sites::SiteMask;
 use tables::{PathTable, Routing};
 use words::PathWord;
 
-/// The set A of the sites that keep their bits when a phase is weighed, where a set is suspected and the sites of Z
-/// have bit 0.
+// The set of all sites.
+fn all_sites<P: Routing>(plan: &P) -> u32
+    ensures { result ≡ 2 ^ (P.network plan.now).n - 1 }
+{
+    (1 << plan.site_count()) - 1
+}
+
+// Half a number, rounded down.
+fn half(limit: u32) -> u32
+    ensures { result ≡ limit / 2 }
+{
+    limit / 2
+}
+
+// How many suspects have bit 0.
+fn zero_suspects(set: SiteMask, zeros: SiteMask) -> u32
+    ensures { result ≡ count_ones (bit_and zeros.bits set.bits) }
+{
+    zeros.and(set).count()
+}
+
+/// The set A of the sites that keep their bits, where a set is suspected and the sites of Z have bit 0; N are the others
+/// of the n sites, and B is the other one of Z and N.
+///
+/// | suspects in Z | further | A |
+/// |---|---|---|
+/// | at most f / 2 | more than f sites in N | N |
+/// | at most f / 2 | at most f sites in N | Z |
+/// | more than f / 2 | more than f sites in Z | Z |
+/// | more than f / 2 | at most f sites in Z | N |
 pub fn keepers<P: Routing>(plan: &P, set: SiteMask, zeros: SiteMask) -> SiteMask
     ensures { result.bits ≡ keepers_by (P.network plan.now).n (P.network plan.now).f set.bits zeros.bits }
 {
-    sites::keepers(plan.site_count(), plan.rogue_limit(), set, zeros)
+    let limit = plan.rogue_limit() as u32;
+    let rest = SiteMask {
+        bits: all_sites(plan).saturating_sub(zeros.bits),
+    };
+    if zero_suspects(set, zeros) <= half(limit) {
+        if rest.count() > limit {
+            return rest;
+        }
+        return zeros;
+    }
+    if zeros.count() > limit {
+        return zeros;
+    }
+    rest
 }
 
 impl Notebook {

@@ -11,7 +11,7 @@ use Rattle.theory.specs.Weighing.{weigh}
 use Rattle.theory.specs.Runs.{suspect}
 use Rattle.airs.specs.Lanes.{lane, count_of, silent, added, put_reply, kept}
 use Rattle.notebooks.specs.Floods.{flood_in, heard_in}
-use Rattle.notebooks.specs.Notebooks.{take_round, owed_words, noted, told_by}
+use Rattle.notebooks.specs.Notebooks.{empty_book, note_round, owed_words, noted, told_by}
 use Rattle.runs.specs.State.{SiteRecord, State, site, is_sound, opened, over, phase, round, rounds_noted}
 
 -- ---- open: 11 where a mask names a site not below n, 12 for more than f rogues
@@ -85,7 +85,7 @@ turn_reply st = cond (over st) (Err Over) (cond (not (all_spoke st)) (Err Unspok
 
 -- a site's notebook when it has heard the round; the first round of a phase begins with an empty one
 unfoldable pub noting : State → ℕ → List ℕ
-noting st v = take_round st.net v (round st) (heard_in (lane st.lanes)) (site st v).notebook
+noting st v = note_round st.net v (round st) (heard_in (lane st.lanes)) (cond (round st == 1) empty_book (site st v).notebook)
 
 -- the bit that a site then holds; when the last round of a phase was heard it weighs
 unfoldable pub weighed : State → ℕ → Bool

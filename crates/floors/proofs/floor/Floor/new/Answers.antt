@@ -6,7 +6,7 @@ use Rattle.plans.specs.Plans.{network}
 use Rattle.plans.specs.Taken.{network_of}
 use Rattle.runs.specs.State.{State, SiteRecord, opened}
 use Rattle.airs.specs.Lanes.{Lanes}
-use Rattle.site_plans.specs.Tables.{site_network}
+use Rattle.floors.specs.Tables.{site_network}
 use Rattle.floors.specs.Views.{seen, fresh, sound_of, built_in}
 use Rattle.floors.proofs.floor.Floor.new.Goals as goal
 

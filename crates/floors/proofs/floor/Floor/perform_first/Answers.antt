@@ -5,7 +5,7 @@ use Rattle.runs.specs.declared.calls.Answer.TheVariants.{Count}
 use Rattle.runs.specs.Runs.{after, answers}
 use Rattle.plans.proofs.Wholes.{plan_lawful}
 use Rattle.floors.specs.Views.{view}
-use Rattle.site_plans.proofs.Made.{base_few}
+use Rattle.floors.proofs.Six.{base_few}
 use Rattle.floors.proofs.Performs.{after_more, answers_more, answered, performed}
 use Rattle.floors.proofs.floor.Floor.perform_first.Goals as goal
 

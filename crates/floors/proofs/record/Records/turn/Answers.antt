@@ -4,7 +4,7 @@ use Rattle.std.proofs.lemmas.List.{map-set, length-map}
 use Rattle.runs.specs.State.{SiteRecord, blank, site, is_sound}
 use Rattle.runs.specs.Replies.{turned_site}
 use Rattle.floors.specs.declared.record.Records.{Records}
-use Rattle.site_plans.specs.Tables.{site_network}
+use Rattle.floors.specs.Tables.{site_network}
 use Rattle.floors.specs.Turns.{turned_by}
 use Rattle.floors.specs.Views.{seen, sound_of, state_of}
 use Rattle.floors.proofs.Seen.{seen_at}
