@@ -1,2 +1,3 @@
 pub mod Floods
 pub mod Notebooks
+pub mod Bits

@@ -18,7 +18,7 @@ pub length_words : (hear : List ℕ → Bool) (qs : List (List ℕ)) → length 
 unfolding flood_words
 length_words hear qs = length-map (words_for hear qs) flood_word ∙ length-map qs (λ p. record { path = p; bit = hear p })
 
-words_append : (hear : List ℕ → Bool) (ps qs : List (List ℕ)) → flood_words hear (ps ++ qs) ≡ flood_words hear ps ++ flood_words hear qs
+pub words_append : (hear : List ℕ → Bool) (ps qs : List (List ℕ)) → flood_words hear (ps ++ qs) ≡ flood_words hear ps ++ flood_words hear qs
 unfolding flood_words
 words_append hear ps qs =
     ap (map flood_word) (map-append (λ p. record { path = p; bit = hear p }) ps qs)
@@ -85,7 +85,7 @@ module _ (N : Network) (v : ℕ) (hear : List ℕ → Bool) where
 
 -- ---- the bit of a path
 
-flood_bit : (p : List ℕ) (b : Bool) → eqb (flood_word (record { path = p; bit = b }) % 2) 1 ≡ b
+pub flood_bit : (p : List ℕ) (b : Bool) → eqb (flood_word (record { path = p; bit = b }) % 2) 1 ≡ b
 unfolding flood_word
 flood_bit p true = eq-eqb _ 1 (omega arith)
 flood_bit p false = ne_eqb _ 1 (λ e. omega arith)

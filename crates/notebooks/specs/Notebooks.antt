@@ -1,5 +1,5 @@
 -- A notebook: a flood word for each expected path that was heard, by length, then ascending; zeros behind them.
-use Rattle.std.specs.Prelude.{ℕ, suc, ◌-◌, ◌%◌, Bool, true, false, cond, ◌||◌, List, [], ◌∷◌, ◌++◌, map, length, take, drop, replicate, Some, None, Option, ◌==◌, slice_index}
+use Rattle.std.specs.Prelude.{ℕ, suc, ◌+◌, ◌-◌, ◌%◌, Bool, true, false, cond, ◌||◌, List, [], ◌∷◌, ◌++◌, map, length, take, drop, replicate, Some, None, Option, ◌==◌, slice_index}
 use Rattle.sites.specs.Lists.{same_path}
 use Rattle.theory.specs.Network.{Network}
 use Rattle.theory.specs.Flooding.{expected, expected_up_to, words_for}
@@ -68,3 +68,22 @@ or_one None = true
 -- what a notebook of v tells of a path when all rounds of a phase were heard
 unfoldable pub told_by : Network → ℕ → List ℕ → List ℕ → Bool
 told_by N v book p = or_one (noted N v (N.n - 1) book p)
+
+-- ---- a notebook whose words count by their bits alone, as one that a host keeps
+
+-- a notebook of v after round r of a phase was heard: the first round begins with an empty one
+abbrev pub take_round : Network → ℕ → ℕ → (List ℕ → Bool) → List ℕ → List ℕ
+take_round N v r hear book = note_round N v r hear (cond (r == 1) empty_book book)
+
+-- a flood word for each of some paths, with the bits noted from a place on
+abbrev pub noted_words : List ℕ → ℕ → List (List ℕ) → List ℕ
+noted_words book i [] = []
+noted_words book i (p ∷ ps) = flood_word (record { path = p; bit = bit_at book i }) ∷ noted_words book (i + 1) ps
+
+-- a flood word for each path of r sites, with the bit that a notebook of v has at its place
+unfoldable pub noted_round : Network → ℕ → ℕ → List ℕ → List ℕ
+noted_round N v r book = noted_words book (first_place N v r) (expected N v r)
+
+-- what v puts in round r, counted from 1, by the bits of its notebook: in round 1 the empty path with the bit that it holds, later a word for each path of r - 1 sites
+unfoldable pub owed_by_bits : Network → ℕ → ℕ → Bool → List ℕ → List ℕ
+owed_by_bits N v r held book = cond (r == 1) (flood_word (record { path = []; bit = held }) ∷ []) (noted_round N v (r - 1) book)

@@ -51,7 +51,7 @@ module _ (ls : Lanes) (es : List ExpectedPath) where
 
 -- ---- the words noted
 
-with_bit : (p : List ℕ) (b : Bool) → cond b (path_word p + 1) (path_word p) ≡ flood_word (record { path = p; bit = b })
+pub with_bit : (p : List ℕ) (b : Bool) → cond b (path_word p + 1) (path_word p) ≡ flood_word (record { path = p; bit = b })
 with_bit p true = sym (flood_two p)
 with_bit p false = refl
 
@@ -75,7 +75,7 @@ notes_are ls ps all = joined ps ∙ map_same (λ p. note_of ls (entry_of p)) (λ
 
 -- ---- the levels of a table
 
-paths_split : (N : Network) (v r : ℕ) → expected_up_to N v r ≡ expected_up_to N v (r - 1) ++ expected N v r
+pub paths_split : (N : Network) (v r : ℕ) → expected_up_to N v r ≡ expected_up_to N v (r - 1) ++ expected N v r
 unfolding expected_up_to expected
 paths_split N v zero = refl
 paths_split N v (suc r) = let e : suc r - 1 ≡ r = omega arith in sym (ap (λ x. expected_up_to N v x ++ expected N v (suc r)) e)

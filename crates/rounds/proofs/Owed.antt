@@ -6,7 +6,7 @@ use Rattle.notebooks.specs.Floods.{flood_word}
 use Rattle.notebooks.specs.Notebooks.{round_words, owed_words}
 
 -- the word of the empty path
-opening : (b : Bool) → flood_word (record { path = []; bit = b }) ≡ cond b 0x10000001 0x10000000
+pub opening : (b : Bool) → flood_word (record { path = []; bit = b }) ≡ cond b 0x10000001 0x10000000
 unfolding flood_word
 opening true = refl
 opening false = refl

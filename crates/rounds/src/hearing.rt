@@ -3,7 +3,7 @@ ghost use Rattle.sites.specs.Lists.{front, final};
 ghost use Rattle.words.specs.Words.{sites_of};
 ghost use Rattle.airs.specs.Lanes.{Lanes, lane};
 ghost use Rattle.notebooks.specs.Floods.{first_of_two, heard_in};
-ghost use Rattle.notebooks.specs.Notebooks.{note_round};
+ghost use Rattle.notebooks.specs.Notebooks.{note_round, take_round};
 ghost use Rattle.tables.specs.Entries.{path_word};
 ghost use Rattle.tables.specs.Tables.{table_network};
 ghost use Rattle.rounds.specs.Ears.{Below, Tuned, note_of};
@@ -131,5 +131,15 @@ impl Notebook {
         for i in start..paths.len() {
             self.words[i] = ears.hear(air, paths[i]);
         }
+    }
+
+    /// Takes a round of a phase, counted from 1: hears it as `hear_round` does, the first round with an empty notebook.
+    pub fn take_round<A: Air>(&mut self, air: &A, table: &PathTable, round: usize)
+        ensures { self.new.words ≡ take_round (table_network table.now) table.now.site round (heard_in (lane (A.lanes air.now))) self.old.words }
+    {
+        if round == 1 {
+            self.words = [0; 325];
+        }
+        self.hear_round(air, table, round);
     }
 }

@@ -1,4 +1,4 @@
-ghost use Rattle.std.specs.Prelude.{◌≡◌, ◌-◌, ◌^◌, ◌<◌};
+ghost use Rattle.std.specs.Prelude.{◌≡◌, ◌-◌, ◌^◌, ◌<◌, nat_lt, slice_set};
 ghost use Rattle.sites.specs.Lists.{front};
 ghost use Rattle.words.specs.Words.{sites_of};
 ghost use Rattle.notebooks.specs.Notebooks.{empty_book, bit_at, noted as noted_in, or_one, told_by};
@@ -83,6 +83,20 @@ impl Notebook {
         ensures { result.now ≡ self.now.words }
     {
         &self.words
+    }
+
+    /// Puts a word at a place, and tells whether there is such a place: where there is none, nothing changes. A host that
+    /// keeps the words of a notebook itself makes one of them so. Any word may stand anywhere, since of a word only its
+    /// last bit counts.
+    pub fn set_word(&mut self, place: usize, word: u32) -> bool
+        ensures answer { result ≡ nat_lt place 325 }
+        ensures after { self.new.words ≡ slice_set self.old.words place word }
+    {
+        if place >= 325 {
+            return false;
+        }
+        self.words[place] = word;
+        true
     }
 
     /// The bit noted at a place: the last bit of the word that stands there, and 0 past the end.

@@ -44,7 +44,7 @@ pub(crate) fn first_of_round(table: &PathTable, round: usize) -> usize
 }
 
 // The flood word of the empty path with a bit.
-fn opening_word(bit: bool) -> u32
+pub(crate) fn opening_word(bit: bool) -> u32
     ensures { result ≡ (if bit then 0x10000001 else 0x10000000) }
 {
     if bit { 0x1000_0001 } else { 0x1000_0000 }

@@ -6,7 +6,7 @@ use Rattle.theory.specs.Network.{Network}
 use Rattle.theory.specs.Weighing.{weigh}
 use Rattle.theory.specs.Runs.{suspect}
 use Rattle.airs.specs.Lanes.{Lanes}
-use Rattle.notebooks.specs.Notebooks.{empty_book, take_round, owed_words, told_by}
+use Rattle.notebooks.specs.Notebooks.{empty_book, take_round, owed_by_bits, told_by}
 use Rattle.tables.specs.Tables.{table_network}
 use Rattle.tables.specs.declared.table.PathTable.{PathTable}
 use Rattle.rounds.specs.Speaking.{put_all_reply, put_all_next}
@@ -19,7 +19,7 @@ pub still_here : (N : Network) (s n f : ℕ) → same_size N n f ≡ true → s 
 still_here N s n f same here = omega (arith, eqb-true N.n n (and_parts (eqb N.n n) (eqb N.f f) same).0)
 
 module _ (N : Network) (s : ℕ) (t : PathTable) (fits : Fits N s t) (below : s < N.n) where
-  pub owed_is : (r : ℕ) (held : Bool) (book : List ℕ) → owed_words (table_network t) t.site r held book ≡ owed_words N s r held book
+  pub owed_is : (r : ℕ) (held : Bool) (book : List ℕ) → owed_by_bits (table_network t) t.site r held book ≡ owed_by_bits N s r held book
   owed_is = owed_fits N s t fits below
 
   pub book_is : (r : ℕ) (hear : List ℕ → Bool) (book : List ℕ) → take_round (table_network t) t.site r hear book ≡ take_round N s r hear book
@@ -33,7 +33,7 @@ module _ (N : Network) (s : ℕ) (t : PathTable) (fits : Fits N s t) (below : s 
 
 module _ (size : ℕ) (N : Network) (ls : Lanes) (e : InRound) (book : List ℕ) (t : PathTable) (fits : Fits N e.site t) (same : same_size N e.n e.f ≡ true) (here : e.site < e.n) where
   abbrev ws : List ℕ
-  ws = owed_words (table_network t) t.site e.round e.holds book
+  ws = owed_by_bits (table_network t) t.site e.round e.holds book
 
   words_are : ws ≡ owed_by N e book
   words_are = owed_is N e.site t fits (still_here N e.site e.n e.f same here) e.round e.holds book

@@ -9,18 +9,20 @@ use Rattle.std.proofs.lemmas.Bool.{lt-ltb, lt-leb, le-ltb, eq-eqb, ne_eqb, cases
 use Rattle.sites.specs.declared.refusal.Refusal.TheVariants.{Over, Unspoken}
 use Rattle.sites.specs.Sets.{in_set}
 use Rattle.theory.specs.Network.{Network, Lawful}
-use Rattle.theory.specs.Flooding.{Said}
+use Rattle.theory.specs.Flooding.{Said, heard}
 use Rattle.theory.specs.Weighing.{weigh}
-use Rattle.theory.specs.Runs.{phases, suspect, holds, owes, Sound, play}
+use Rattle.theory.specs.Runs.{phases, suspect, start, holds, owes, Sound, play}
 use Rattle.theory.proofs.Rounds.{inside, across, holds_none}
 use Rattle.theory.proofs.Play.{play_rogue, play_sound}
 use Rattle.airs.specs.Lanes.{Lanes, lane, silent}
 use Rattle.notebooks.specs.Floods.{flood_word, floods, heard_in}
-use Rattle.notebooks.specs.Notebooks.{empty_book, note_round, take_round, owed_words, told_by}
+use Rattle.notebooks.specs.Notebooks.{empty_book, shown, note_round, take_round, owed_words, owed_by_bits, told_by}
 use Rattle.notebooks.proofs.Notebooks.{shown_none}
-use Rattle.runs.specs.State.{State, SiteRecord, blank, site, is_sound, last_turn, round, rounds_noted}
+use Rattle.notebooks.proofs.Bits.{owed_alike}
+use Rattle.runs.specs.State.{State, SiteRecord, blank, site, is_sound, last_turn, round, rounds_noted, phase_noted}
 use Rattle.runs.specs.Replies.{speech, turn_reply, all_spoke, turned, noting, weighed as bit_after}
 use Rattle.runs.specs.Runs.{Entry, accepted_turns, transmitted}
+use Rattle.runs.proofs.Rounds.{phase_within, rounds_within}
 use Rattle.runs.proofs.Accepted.{all_spoke_from}
 use Rattle.runs.proofs.Follows.{Given, Follows, book_after, put_since, sound_is, silent_lane, turned_at, speech_is, turned_follows}
 use Rattle.runs.proofs.Guarantee.{guarantee_law}
@@ -29,8 +31,8 @@ use Rattle.single_end.specs.InStep.{weighed_if_due, bit_of, TurnOf, InStep, InSt
 use Rattle.single_end.proofs.Steps.{not_last, last_of_phase}
 
 -- in round 1 the notebook does not count
-owed_first : (N : Network) (v r : ℕ) (held : Bool) (a b : List ℕ) → r ≡ 1 → owed_words N v r held a ≡ owed_words N v r held b
-unfolding owed_words
+owed_first : (N : Network) (v r : ℕ) (held : Bool) (a b : List ℕ) → r ≡ 1 → owed_by_bits N v r held a ≡ owed_by_bits N v r held b
+unfolding owed_by_bits
 owed_first N v r held a b e =
     cond-true (eqb r 1) _ _ (eq-eqb r 1 e) ∙ sym (cond-true (eqb r 1) _ _ (eq-eqb r 1 e))
 
@@ -118,12 +120,19 @@ module _ (size : ℕ) (N : Network) (rogues bits : ℕ) (said : Said) (given : G
     first_round : t ≡ 0 → t % m + 1 ≡ 1
     first_round e = ap (λ (x : ℕ). x % m + 1) e ∙ omega (arith, mod_below 0 m some, zero-mod m)
 
+    this_phase : (v : ℕ) → Sound N rogues v → (t % m ≡ 0 → ⊥) → counted t book v ≡ shown N v (t % m) (heard said (start N (t / m)))
+    this_phase v h d =
+        inv.notes v h
+        ∙ ap (λ (r : ℕ). shown N v r (heard said (start N (phase_noted N t)))) (rounds_within N given.lawful.least t d)
+        ∙ ap (λ (p : ℕ). shown N v (t % m) (heard said (start N p))) (phase_within N given.lawful.least t d)
+
     owed_is : (v : ℕ) → Sound N rogues v → owed_by N (round_at t v) (book v) ≡ map flood_word (owes N said opening t v)
     owed_is v h =
         ⊎_elim
         (λ (z : t ≡ 0). owed_first N v (t % m + 1) (hold v) (book v) (counted t book v) (first_round z))
-        (λ z. ap (owed_words N v (t % m + 1) (hold v)) (sym (cond-false (eqb t 0) empty_book (book v) (ne_eqb t 0 z))))
+        (λ z. ap (owed_by_bits N v (t % m + 1) (hold v)) (sym (cond-false (eqb t 0) empty_book (book v) (ne_eqb t 0 z))))
         (cases_eq t 0)
+        ∙ owed_alike N v (t % m) (hold v) (counted t book v) (heard said (start N (t / m))) (this_phase v h)
         ∙ ap (λ (x : SiteRecord). owed_words N v (t % m + 1) x.holds x.notebook) (sym (at_sound false hold (counted t book) silent t v h))
         ∙ speech_is size opening said quiet given quiet_follows v h
 

@@ -7,7 +7,7 @@ use Rattle.theory.specs.Weighing.{weigh}
 use Rattle.theory.specs.Runs.{phases, suspect}
 use Rattle.airs.specs.Lanes.{Lanes, lane, kept}
 use Rattle.notebooks.specs.Floods.{heard_in}
-use Rattle.notebooks.specs.Notebooks.{take_round, owed_words, told_by}
+use Rattle.notebooks.specs.Notebooks.{take_round, owed_by_bits, told_by}
 use Rattle.rounds.specs.Speaking.{put_all_reply, put_all_next}
 
 -- what an end keeps in a round of a phase; n and f are those that it began with
@@ -53,7 +53,7 @@ same_size N n f = N.n == n && N.f == f
 -- ---- speak: 14; 25 where the lane cannot take all that is owed, and then none of it is put; else how many words that are
 
 abbrev pub owed_by : Network → InRound → List ℕ → List ℕ
-owed_by N e book = owed_words N e.site e.round e.holds book
+owed_by N e book = owed_by_bits N e.site e.round e.holds book
 
 abbrev pub speak_reply : ℕ → Network → Lanes → InRound → List ℕ → Result ℕ Refusal
 speak_reply size N ls e book = cond (same_size N e.n e.f) (put_all_reply size ls e.site (owed_by N e book)) (Err OtherPlan)

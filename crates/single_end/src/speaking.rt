@@ -1,6 +1,6 @@
 ghost use Rattle.std.specs.Prelude.{◌≡◌};
 ghost use Rattle.plans.specs.Plans.{network};
-ghost use Rattle.notebooks.specs.Notebooks.{owed_words};
+ghost use Rattle.notebooks.specs.Notebooks.{owed_by_bits};
 ghost use Rattle.tables.specs.Tables.{table_network};
 ghost use Rattle.rounds.specs.Speaking.{put_all_reply, put_all_next};
 ghost use Rattle.single_end.specs.Ends.{speak_reply, speak_next};
@@ -23,10 +23,10 @@ impl Round {
         table: &PathTable,
         notebook: &Notebook,
     ) -> Result<usize, Refusal>
-        ensures answer { result ≡ put_all_reply A.size (A.lanes air.old) table.now.site (owed_words (table_network table.now) table.now.site self.now.round self.now.bit notebook.now.words) }
-        ensures after { A.lanes air.new ≡ put_all_next A.size (A.lanes air.old) table.now.site (owed_words (table_network table.now) table.now.site self.now.round self.now.bit notebook.now.words) }
+        ensures answer { result ≡ put_all_reply A.size (A.lanes air.old) table.now.site (owed_by_bits (table_network table.now) table.now.site self.now.round self.now.bit notebook.now.words) }
+        ensures after { A.lanes air.new ≡ put_all_next A.size (A.lanes air.old) table.now.site (owed_by_bits (table_network table.now) table.now.site self.now.round self.now.bit notebook.now.words) }
     {
-        notebook.speak(air, table, self.round, self.bit)
+        notebook.speak_by_bits(air, table, self.round, self.bit)
     }
 
     /// Puts all that the site owes in this round and answers how many words that are. Refused with 14 where the plan has
