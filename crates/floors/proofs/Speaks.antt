@@ -1,5 +1,5 @@
 -- Speaking by a table is speaking by the network.
-use Rattle.std.proofs.Common.{◌≡◌, ℕ, ◌+◌, ◌-◌, ◌<◌, ◌≤◌, Bool, true, false, cond, ltb, leb, List, map, length, get_or, set, Ok, Err, Result, sym, refl, ap, ◌∙◌, arith}
+use Rattle.std.proofs.Common.{◌≡◌, ℕ, ◌+◌, ◌-◌, ◌<◌, ◌≤◌, Bool, false, cond, ltb, leb, List, length, get_or, set, Ok, Err, Result, sym, refl, ap, ◌∙◌, arith}
 use Rattle.std.proofs.lemmas.List.{set-get_or}
 use Rattle.std.proofs.lemmas.Bool.Decides.{nat_tests}
 use Rattle.sites.specs.declared.refusal.Refusal.{Refusal}
@@ -8,7 +8,7 @@ use Rattle.theory.specs.Network.{Network}
 use Rattle.theory.specs.Runs.{Sound}
 use Rattle.airs.specs.Lanes.{Lanes, count_of, added, kept}
 use Rattle.tables.specs.declared.table.PathTable.{PathTable}
-use Rattle.runs.specs.State.{State, SiteRecord, blank, site, over, round}
+use Rattle.runs.specs.State.{State, SiteRecord, site, over, round}
 use Rattle.runs.specs.Replies.{speech, as_spoken, speak_reply, speak_next, spoken_by}
 use Rattle.runs.proofs.Accepted.{for_sound_is}
 use Rattle.rounds.specs.Speaking.{put_all_reply, put_all_next}

@@ -1,8 +1,7 @@
 -- What a turn does to one record, and to all.
-use Rattle.std.proofs.Common.{◌≡◌, ℕ, ◌+◌, ◌-◌, ◌/◌, ◌%◌, ◌<◌, ◌≤◌, Bool, true, false, cond, not, ◌&&◌, eqb, ltb, List, [], map, length, get_or, set, Some, None, Option, sym, refl, ap, ◌∙◌, ⊎_elim, arith, eq-eqb, ne_eqb}
-use Rattle.std.specs.List.{range_with_len}
+use Rattle.std.proofs.Common.{◌≡◌, ℕ, ◌+◌, ◌-◌, ◌/◌, ◌%◌, ◌<◌, ◌≤◌, Bool, true, false, cond, eqb, ltb, List, length, get_or, set, Some, None, sym, refl, ap, ◌∙◌, ⊎_elim, arith, eq-eqb, ne_eqb}
 use Rattle.std.proofs.lemmas.List.{get_or_past, get_or-set_same, get_or-set_other, length-set}
-use Rattle.std.proofs.lemmas.Bool.{cases_eq, cases_Bool}
+use Rattle.std.proofs.lemmas.Bool.{cases_eq}
 use Rattle.std.proofs.lemmas.Bool.Decides.{nat_tests}
 use Rattle.sites.specs.Suspects.{suspects}
 use Rattle.theory.specs.Network.{Network}
@@ -11,7 +10,6 @@ use Rattle.theory.specs.Runs.{suspect}
 use Rattle.airs.specs.Lanes.{Lanes, lane}
 use Rattle.notebooks.specs.Floods.{heard_in}
 use Rattle.notebooks.specs.Notebooks.{empty_book, told_by}
-use Rattle.tables.specs.Tables.{table_network}
 use Rattle.tables.specs.declared.table.PathTable.{PathTable}
 use Rattle.runs.specs.State.{State, SiteRecord, blank, site, is_sound}
 use Rattle.runs.specs.Replies.{noting, weighed, turned_site}

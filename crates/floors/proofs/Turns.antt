@@ -1,7 +1,7 @@
 -- Counting turns.
-use Rattle.std.proofs.Common.{◌≡◌, ℕ, ◌-◌, ◌*◌, ◌/◌, ◌<◌, ◌≤◌, Bool, true, false, leb, length, sym, refl, ap, ◌∙◌, ⊎_elim, le-div_iff_mul-le, arith}
+use Rattle.std.proofs.Common.{◌≡◌, ℕ, ◌-◌, ◌*◌, ◌/◌, ◌<◌, ◌≤◌, false, leb, length, sym, refl, ap, ◌∙◌, ⊎_elim, le-div_iff_mul-le, arith}
 use Rattle.std.proofs.lemmas.Bool.{le-leb, leb-true, leb-false}
-use Rattle.std.proofs.lemmas.Bool.Decides.{leb_tells, nat_tests}
+use Rattle.std.proofs.lemmas.Bool.Decides.{leb_tells}
 use Rattle.sites.specs.Positions.{all_from}
 use Rattle.sites.specs.Suspects.{suspects}
 use Rattle.sites.proofs.Positions.{all_at}

@@ -1,5 +1,5 @@
 -- What a turn does to a record.
-use Rattle.std.specs.Prelude.{ℕ, ◌+◌, ◌-◌, ◌/◌, ◌%◌, Bool, false, cond, List, ◌==◌}
+use Rattle.std.specs.Prelude.{ℕ, ◌+◌, ◌-◌, ◌/◌, ◌%◌, false, cond, List, ◌==◌}
 use Rattle.theory.specs.Network.{Network}
 use Rattle.theory.specs.Weighing.{weigh}
 use Rattle.theory.specs.Runs.{suspect}

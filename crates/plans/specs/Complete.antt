@@ -1,5 +1,5 @@
 -- When a sheet is complete: what the last two rows of the check find.
-use Rattle.std.specs.Prelude.{ℕ, ◌+◌, ◌^◌, Bool, not, ◌&&◌, ◌||◌, List, length, is_some, Some, None, Option, Result, ◌==◌, nat_le, slice_index}
+use Rattle.std.specs.Prelude.{ℕ, ◌+◌, ◌^◌, Bool, not, ◌&&◌, ◌||◌, List, length, is_some, Option, Result, ◌==◌, nat_le, slice_index}
 use Rattle.std.specs.Option.{option_map}
 use Rattle.sites.specs.declared.refusal.Refusal.TheVariants.{NoRoute, NoFan}
 use Rattle.sites.specs.Positions.{first_from, all_from}

@@ -1,5 +1,5 @@
 -- Networks with the same sites and edges.
-use Rattle.std.proofs.Common.{◌≡◌, ℕ, ◌-◌, ◌<◌, Bool, cond, eqb, List, [], ◌∷◌, ◌++◌, length, take, drop, Some, None, sym, refl, ap, ◌∙◌}
+use Rattle.std.proofs.Common.{◌≡◌, ℕ, ◌-◌, ◌<◌, Bool, cond, eqb, List, [], ◌∷◌, ◌++◌, length, take, drop, Some, None, ap, ◌∙◌}
 use Rattle.theory.specs.Network.{Network}
 use Rattle.theory.specs.Flooding.{expected, expected_up_to}
 use Rattle.notebooks.specs.Floods.{flood_word}

@@ -1,12 +1,12 @@
 -- What hearing a round leaves in a notebook, and reading it by levels.
-use Rattle.std.proofs.Common.{◌≡◌, ℕ, zero, suc, ◌+◌, ◌-◌, ◌^◌, ◌<◌, ◌≤◌, Bool, true, false, cond, List, [], ◌∷◌, ◌++◌, map, length, get_or, take, drop, set, sym, refl, ap, ◌∙◌, subst, append_assoc, append-nil, arith, length-append}
+use Rattle.std.proofs.Common.{◌≡◌, ℕ, zero, suc, ◌+◌, ◌-◌, ◌^◌, ◌<◌, ◌≤◌, Bool, true, false, cond, List, [], ◌∷◌, ◌++◌, map, length, get_or, take, drop, set, sym, refl, ap, ◌∙◌, subst, append_assoc, arith}
 use Rattle.std.proofs.lemmas.List.{take-append-drop, take_more_set, drop-set-lt, drop_more, length-set, map-append, length-map, drop_at, take_all, get_or-map}
 use Rattle.sites.specs.Lists.{In, front, final}
 use Rattle.sites.proofs.Lists.{map_same, get_or_in, in_right}
 use Rattle.airs.specs.Lanes.{Lanes, lane}
-use Rattle.theory.specs.Flooding.{Word, expected, expected_up_to, words_for}
+use Rattle.theory.specs.Flooding.{expected, expected_up_to, words_for}
 use Rattle.theory.specs.Network.{Network}
-use Rattle.notebooks.specs.Floods.{flood_word, floods, heard_in, first_of_two}
+use Rattle.notebooks.specs.Floods.{flood_word, heard_in}
 use Rattle.notebooks.specs.Notebooks.{flood_words, note_round, round_words}
 use Rattle.notebooks.specs.Laws.{Carried}
 use Rattle.notebooks.proofs.Floods.{flood_two, first_word}

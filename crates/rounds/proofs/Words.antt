@@ -1,7 +1,7 @@
 -- The flood word of a path, written and read.
-use Rattle.std.proofs.Common.{◌≡◌, ℕ, zero, suc, ◌-◌, ◌^◌, ◌<◌, ◌≤◌, Bool, true, false, cond, eqb, leb, List, [], ◌∷◌, length, Some, None, Option, sym, refl, ap, ◌∙◌, subst, ⊎_elim, arith}
+use Rattle.std.proofs.Common.{◌≡◌, ℕ, ◌-◌, ◌^◌, ◌<◌, Bool, true, false, cond, eqb, leb, List, length, Some, None, Option, sym, refl, ap, ◌∙◌, arith}
 use Rattle.std.specs.Option.{option_map}
-use Rattle.std.proofs.lemmas.Bool.{and_parts, and_from, le-leb, leb-true, eq-eqb, both_ways, cases_Bool}
+use Rattle.std.proofs.lemmas.Bool.{and_parts, and_from, le-leb, leb-true, both_ways}
 use Rattle.sites.specs.Lists.{front}
 use Rattle.words.specs.declared.kind.Kind.{Kind}
 use Rattle.words.specs.declared.kind.Kind.TheVariants.{Flood, Route, Fan}
@@ -10,7 +10,7 @@ use Rattle.words.specs.Layout.{kind_field, path_field}
 use Rattle.words.specs.Paths.{path?}
 use Rattle.words.specs.Words.{Meaning, lawful?, word_of, fields_as, meaning_as, meaning}
 use Rattle.theory.specs.Network.{Network}
-use Rattle.theory.specs.Flooding.{Word, expected_up_to}
+use Rattle.theory.specs.Flooding.{expected_up_to}
 use Rattle.notebooks.specs.Floods.{flood_word, flood_in, flood_of, flood_of_kind}
 use Rattle.notebooks.specs.Laws.{Carried}
 use Rattle.notebooks.specs.Notebooks.{listed, place, bit_at, noted}

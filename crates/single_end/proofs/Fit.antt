@@ -1,5 +1,5 @@
 -- What a single end does by its site's table is what the network has for the site.
-use Rattle.std.proofs.Common.{◌≡◌, ℕ, ◌<◌, Bool, true, cond, eqb, List, Err, sym, refl, ap, ◌∙◌, arith}
+use Rattle.std.proofs.Common.{◌≡◌, ℕ, ◌<◌, Bool, true, cond, eqb, List, Err, sym, ap, ◌∙◌, arith}
 use Rattle.std.proofs.lemmas.Bool.{and_parts, eqb-true, cond-true}
 use Rattle.sites.specs.declared.refusal.Refusal.TheVariants.{OtherPlan}
 use Rattle.theory.specs.Network.{Network}

@@ -1,14 +1,14 @@
 -- Ends that are driven in step follow the algorithm as a floor does: what they keep is what the records of a floor would keep.
-use Rattle.std.proofs.Common.{◌≡◌, ℕ, zero, suc, ◌+◌, ◌-◌, ◌*◌, ◌/◌, ◌%◌, ◌<◌, ◌≤◌, Bool, true, false, cond, not, eqb, ltb, leb, List, [], ◌∷◌, map, length, get_or, Ok, Err, sym, refl, ap, ◌∙◌, subst, ⊎_elim, mul-le-mul_right, arith}
+use Rattle.std.proofs.Common.{◌≡◌, ℕ, zero, suc, ◌+◌, ◌-◌, ◌*◌, ◌/◌, ◌%◌, ◌<◌, ◌≤◌, Bool, true, false, cond, not, eqb, ltb, leb, List, map, length, Ok, Err, sym, refl, ap, ◌∙◌, ⊎_elim, mul-le-mul_right, arith}
 use native.Mathlib.Nat.{zero-mod, zero-div}
 use Rattle.std.specs.List.{range_with_len}
 use Rattle.std.proofs.lemmas.List.{get_or_past}
 use Rattle.std.proofs.lemmas.List.FromFn.{get_or-map-range_with_len, length-map-range_with_len}
 use Rattle.std.proofs.lemmas.Nat.{mod_below}
 use Rattle.std.proofs.lemmas.Bool.{lt-ltb, lt-leb, le-ltb, eq-eqb, ne_eqb, cases_eq, cases_lt, cond-true, cond-false}
-use Rattle.sites.specs.declared.refusal.Refusal.TheVariants.{Over, Unspoken}
+use Rattle.sites.specs.declared.refusal.Refusal.TheVariants.{Unspoken}
 use Rattle.sites.specs.Sets.{in_set}
-use Rattle.theory.specs.Network.{Network, Lawful}
+use Rattle.theory.specs.Network.{Network}
 use Rattle.theory.specs.Flooding.{Said, heard}
 use Rattle.theory.specs.Weighing.{weigh}
 use Rattle.theory.specs.Runs.{phases, suspect, start, holds, owes, Sound, play}
@@ -19,9 +19,9 @@ use Rattle.notebooks.specs.Floods.{flood_word, floods, heard_in}
 use Rattle.notebooks.specs.Notebooks.{empty_book, shown, note_round, take_round, owed_words, owed_by_bits, told_by}
 use Rattle.notebooks.proofs.Notebooks.{shown_none}
 use Rattle.notebooks.proofs.Bits.{owed_alike}
-use Rattle.runs.specs.State.{State, SiteRecord, blank, site, is_sound, last_turn, round, rounds_noted, phase_noted}
-use Rattle.runs.specs.Replies.{speech, turn_reply, all_spoke, turned, noting, weighed as bit_after}
-use Rattle.runs.specs.Runs.{Entry, accepted_turns, transmitted}
+use Rattle.runs.specs.State.{State, SiteRecord, blank, site, is_sound, last_turn, phase_noted}
+use Rattle.runs.specs.Replies.{turn_reply, turned, noting, weighed as bit_after}
+use Rattle.runs.specs.Runs.{accepted_turns, transmitted}
 use Rattle.runs.proofs.Rounds.{phase_within, rounds_within}
 use Rattle.runs.proofs.Accepted.{all_spoke_from}
 use Rattle.runs.proofs.Follows.{Given, Follows, book_after, put_since, sound_is, silent_lane, turned_at, speech_is, turned_follows}

@@ -4,7 +4,7 @@ use Rattle.sites.specs.declared.refusal.Refusal.{Refusal}
 use Rattle.sites.specs.declared.refusal.Refusal.TheVariants.{OtherPlan}
 use Rattle.theory.specs.Network.{Network}
 use Rattle.airs.specs.Lanes.{Lanes}
-use Rattle.single_end.specs.Ends.{InRound, InWeighing, Afterwards, Standing, next_round, all_taken, in_round, done, begin_reply, same_size, taken, book_taken, weighed}
+use Rattle.single_end.specs.Ends.{InRound, InWeighing, Afterwards, Standing, next_round, all_taken, in_round, done, same_size, taken, book_taken, weighed}
 use Rattle.single_end.specs.States.{seen_round, seen_weighing}
 use Rattle.single_end.specs.declared.round.Round.{Round}
 use Rattle.single_end.specs.declared.weighing_state.Weighing.{Weighing}

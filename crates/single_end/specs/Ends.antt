@@ -5,7 +5,7 @@ use Rattle.sites.specs.declared.refusal.Refusal.TheVariants.{NoSite, OtherPlan}
 use Rattle.theory.specs.Network.{Network}
 use Rattle.theory.specs.Weighing.{weigh}
 use Rattle.theory.specs.Runs.{phases, suspect}
-use Rattle.airs.specs.Lanes.{Lanes, lane, kept}
+use Rattle.airs.specs.Lanes.{Lanes, lane}
 use Rattle.notebooks.specs.Floods.{heard_in}
 use Rattle.notebooks.specs.Notebooks.{take_round, owed_by_bits, told_by}
 use Rattle.rounds.specs.Speaking.{put_all_reply, put_all_next}

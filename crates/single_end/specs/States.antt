@@ -1,5 +1,5 @@
 -- What the states of a single end keep.
-use Rattle.single_end.specs.Ends.{InRound, InWeighing, Afterwards, Standing, next_round, all_taken, in_round, done}
+use Rattle.single_end.specs.Ends.{InRound, InWeighing}
 use Rattle.single_end.specs.declared.round.Round.{Round}
 use Rattle.single_end.specs.declared.weighing_state.Weighing.{Weighing}
 

@@ -1,4 +1,4 @@
-use Rattle.std.proofs.Common.{◌≡◌, sym, ap, ◌∙◌}
+use Rattle.std.proofs.Common.{ap, ◌∙◌}
 use Rattle.sites.specs.Lists.{front, final}
 use Rattle.words.specs.Words.{sites_of}
 use Rattle.airs.specs.Lanes.{lane}

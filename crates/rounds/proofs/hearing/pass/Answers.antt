@@ -1,4 +1,4 @@
-use Rattle.std.proofs.Common.{◌≡◌, ◌<◌, ◌≤◌, length, sym, ◌∙◌, arith}
+use Rattle.std.proofs.Common.{◌<◌, length, sym, ◌∙◌, arith}
 use Rattle.airs.specs.Lanes.{lane}
 use Rattle.rounds.proofs.Scans.{never_none}
 use Rattle.rounds.proofs.Scans.{low_more}

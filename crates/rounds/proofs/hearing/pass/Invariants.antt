@@ -1,4 +1,3 @@
-use Rattle.std.proofs.Common.{◌≡◌}
 use Rattle.airs.specs.Lanes.{lane}
 use Rattle.rounds.specs.Ears.{Below}
 use Rattle.rounds.proofs.hearing.pass.Given as goal

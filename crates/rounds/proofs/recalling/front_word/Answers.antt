@@ -1,4 +1,3 @@
-use Rattle.std.proofs.Common.{◌≡◌, ℕ, ◌-◌, ◌^◌, ◌<◌, sym, ap, ◌∙◌, arith}
 use Rattle.words.specs.Words.{sites_of, meaning_of}
 use Rattle.rounds.proofs.Paths.{front_carried}
 use Rattle.rounds.proofs.Words.{written, unwritten}

@@ -1,4 +1,4 @@
-use Rattle.std.proofs.Common.{◌≡◌, List, [], ◌∷◌, length, sym, refl, ap, ◌∙◌, arith}
+use Rattle.std.proofs.Common.{length, ap, arith}
 use Rattle.tables.specs.Tables.{table_network}
 use Rattle.tables.proofs.TableFacts.{counts_rise}
 use Rattle.rounds.proofs.OwedByBits.{owed_one, owed_later}

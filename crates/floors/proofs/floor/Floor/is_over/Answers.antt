@@ -1,4 +1,4 @@
-use Rattle.std.proofs.Common.{◌≡◌, ℕ, ◌-◌, ◌*◌, ◌/◌, ◌<◌, leb, sym, ap, ◌∙◌, arith}
+use Rattle.std.proofs.Common.{ℕ, ◌-◌, ◌*◌, ◌<◌, leb, ap, ◌∙◌, arith}
 use Rattle.floors.specs.Tables.{site_network}
 use Rattle.floors.proofs.Turns.{whole_phases}
 use Rattle.floors.proofs.floor.Floor.is_over.Goals as goal

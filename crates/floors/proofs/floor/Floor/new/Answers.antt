@@ -1,13 +1,12 @@
-use Rattle.std.proofs.Common.{◌≡◌, ℕ, ◌&&◌, List, map, refl, ap, ◌∙◌}
+use Rattle.std.proofs.Common.{◌≡◌, ℕ, ◌&&◌, List, map, ap, ◌∙◌}
 use Rattle.std.specs.List.{range_with_len}
 use Rattle.sites.specs.Sets.{in_set}
 use Rattle.theory.specs.Network.{Network}
 use Rattle.plans.specs.Plans.{network}
 use Rattle.plans.specs.Taken.{network_of}
-use Rattle.runs.specs.State.{State, SiteRecord, opened}
+use Rattle.runs.specs.State.{State, SiteRecord}
 use Rattle.airs.specs.Lanes.{Lanes}
-use Rattle.floors.specs.Tables.{site_network}
-use Rattle.floors.specs.Views.{seen, fresh, sound_of, built_in}
+use Rattle.floors.specs.Views.{fresh, sound_of, built_in}
 use Rattle.floors.proofs.floor.Floor.new.Goals as goal
 
 parts : (N M : Network) (rs qs : List SiteRecord) (ls ms : Lanes) (rogues turns : ℕ) → N ≡ M → rs ≡ qs → ls ≡ ms →

@@ -1,5 +1,4 @@
-use Rattle.std.proofs.Common.{◌≡◌, ℕ, ◌<◌, ◌≤◌, List, ◌++◌, length, get_or, take, drop, sym, ap, ◌∙◌, arith}
-use Rattle.runs.specs.declared.calls.Call.{Call}
+use Rattle.std.proofs.Common.{◌≡◌, ℕ, ◌<◌, ◌≤◌, ◌++◌, length, take, drop, ap, ◌∙◌, arith}
 use Rattle.runs.specs.declared.calls.Call.TheVariants.{Transmit}
 use Rattle.runs.specs.declared.calls.Answer.TheVariants.{Count}
 use Rattle.runs.specs.Runs.{after, answers}

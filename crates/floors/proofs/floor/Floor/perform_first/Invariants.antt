@@ -1,4 +1,4 @@
-use Rattle.std.proofs.Common.{◌≡◌, ◌++◌, length, take, drop}
+use Rattle.std.proofs.Common.{◌≡◌, ◌++◌, take, drop}
 use Rattle.runs.specs.Runs.{after, answers}
 use Rattle.floors.specs.Views.{view, plan_sheet}
 use Rattle.floors.proofs.floor.Floor.perform_first.Given as goal

@@ -1,6 +1,6 @@
-use Rattle.std.proofs.Common.{◌≡◌, ℕ, List, [], ◌++◌, length, take, drop, sym, ap, ◌∙◌, subst}
+use Rattle.std.proofs.Common.{[], ◌++◌, take, drop, sym, ap, ◌∙◌, subst}
 use Rattle.plans.specs.Plans.{network}
-use Rattle.runs.specs.State.{State, opened}
+use Rattle.runs.specs.State.{State}
 use Rattle.runs.specs.Runs.{none, after, answers}
 use Rattle.runs.proofs.Laws.{open_law}
 use Rattle.floors.specs.Lists.{Performed}

@@ -1,6 +1,5 @@
-use Rattle.std.proofs.Common.{◌≡◌, ℕ, ◌<◌, ◌≤◌, Ok, sym, refl, ap, ◌∙◌, arith}
+use Rattle.std.proofs.Common.{ℕ, ◌≤◌, Ok, sym, refl, ap, ◌∙◌, arith}
 use Rattle.airs.specs.Lanes.{count_of}
-use Rattle.runs.specs.State.{round}
 use Rattle.runs.proofs.Accepted.{for_sound_ok}
 use Rattle.rounds.specs.Speaking.{put_all_reply, put_all_next}
 use Rattle.floors.specs.Views.{record_at, owed_by, view}

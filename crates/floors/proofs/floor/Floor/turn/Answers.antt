@@ -1,5 +1,4 @@
 use Rattle.std.proofs.Common.{sym, arith}
-use Rattle.floors.specs.Views.{view}
 use Rattle.floors.proofs.Turns.{few_turns}
 use Rattle.floors.proofs.floor.Floor.turn.Goals as goal
 

@@ -1,4 +1,4 @@
-use Rattle.std.proofs.Common.{◌≡◌, ℕ, ◌<◌, true, [], ◌∷◌, map, get_or, refl, arith}
+use Rattle.std.proofs.Common.{◌≡◌, ◌<◌, true, [], ◌∷◌, map, get_or, refl, arith}
 use Rattle.theory.specs.Flooding.{expected}
 use Rattle.floors.specs.declared.site_plan.SitePlan.{SitePlan}
 use Rattle.floors.specs.Tables.{site_network, table_site, table_count, level_at, same_paths}

@@ -1,7 +1,7 @@
-use Rattle.std.proofs.Common.{◌≡◌, ℕ, ◌+◌, ◌<◌, true, false, List, map, length, get_or, set, sym, refl, ap, ◌∙◌, subst, arith}
+use Rattle.std.proofs.Common.{◌≡◌, ℕ, ◌+◌, ◌<◌, true, false, map, length, get_or, sym, ap, ◌∙◌, subst, arith}
 use Rattle.std.proofs.lemmas.List.FromFn.{fill_by_all}
 use Rattle.std.proofs.lemmas.List.{map-set, length-map}
-use Rattle.runs.specs.State.{SiteRecord, blank, site, is_sound}
+use Rattle.runs.specs.State.{blank, site, is_sound}
 use Rattle.runs.specs.Replies.{turned_site}
 use Rattle.floors.specs.declared.record.Records.{Records}
 use Rattle.floors.specs.Tables.{site_network}

@@ -1,4 +1,4 @@
-use Rattle.std.proofs.Common.{◌≡◌, map, length}
+use Rattle.std.proofs.Common.{map}
 use Rattle.runs.specs.Replies.{turned_site}
 use Rattle.floors.specs.Views.{seen, state_of}
 use Rattle.floors.proofs.Turned.{Done}

@@ -1,4 +1,4 @@
-use Rattle.std.proofs.Common.{◌≡◌, ℕ, ◌+◌, ◌-◌, ◌/◌, ◌%◌, sym, refl, ap, ◌∙◌, arith}
+use Rattle.std.proofs.Common.{ℕ, ◌+◌, ◌-◌, ◌/◌, ◌%◌, sym, ap, ◌∙◌}
 use Rattle.runs.specs.State.{SiteRecord}
 use Rattle.theory.specs.Runs.{suspect}
 use Rattle.floors.specs.Tables.{site_network}

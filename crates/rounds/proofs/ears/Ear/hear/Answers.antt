@@ -1,4 +1,4 @@
-use Rattle.std.proofs.Common.{◌≡◌, sym, ◌∙◌}
+use Rattle.std.proofs.Common.{◌∙◌}
 use Rattle.airs.specs.Lanes.{lane}
 use Rattle.rounds.proofs.Scans.{low_skip}
 use Rattle.rounds.proofs.ears.Ear.hear.Goals as goal

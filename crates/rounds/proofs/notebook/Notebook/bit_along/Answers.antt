@@ -1,4 +1,4 @@
-use Rattle.std.proofs.Common.{◌≡◌, ℕ, List, sym, ap, ◌∙◌}
+use Rattle.std.proofs.Common.{ℕ, List, ap, ◌∙◌}
 use Rattle.sites.specs.Lists.{front}
 use Rattle.words.specs.declared.path.Path.{Path}
 use Rattle.words.specs.Words.{meaning_of, sites_of}

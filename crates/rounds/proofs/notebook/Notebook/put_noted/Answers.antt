@@ -5,7 +5,6 @@ use Rattle.airs.proofs.Puts.{added_none, put_more}
 use Rattle.notebooks.specs.Notebooks.{noted_round}
 use Rattle.tables.specs.Entries.{entry_of, no_entry}
 use Rattle.tables.specs.Tables.{table_network, table_paths}
-use Rattle.tables.proofs.TableFacts.{counts_rise}
 use Rattle.rounds.proofs.Notes.{hearable}
 use Rattle.rounds.proofs.Spoken.{round_length, round_word}
 use Rattle.rounds.proofs.notebook.Notebook.put_noted.Goals as goal

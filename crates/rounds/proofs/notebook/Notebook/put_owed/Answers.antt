@@ -1,7 +1,6 @@
-use Rattle.std.proofs.Common.{◌≡◌, ℕ, List, [], ◌∷◌, length, sym, ap, ◌∙◌, arith}
+use Rattle.std.proofs.Common.{ℕ, List, [], ◌∷◌, length, sym, ap, ◌∙◌, arith}
 use Rattle.airs.specs.Lanes.{Lanes, added, put_next}
 use Rattle.airs.proofs.Puts.{added_none, put_more}
-use Rattle.notebooks.specs.Notebooks.{noted_round, owed_by_bits}
 use Rattle.tables.specs.Tables.{table_network}
 use Rattle.rounds.proofs.OwedByBits.{owed_first, owed_one, owed_later}
 use Rattle.rounds.proofs.notebook.Notebook.put_owed.Goals as goal

@@ -1,4 +1,4 @@
-use Rattle.std.proofs.Common.{◌≡◌, ℕ, ◌-◌, List, [], ◌∷◌, sym, ap, ◌∙◌}
+use Rattle.std.proofs.Common.{◌≡◌, ℕ, List, [], ◌∷◌, ap, ◌∙◌}
 use Rattle.airs.specs.Lanes.{Lanes}
 use Rattle.tables.specs.Tables.{table_network}
 use Rattle.notebooks.specs.Notebooks.{owed_words}

@@ -1,4 +1,4 @@
-use Rattle.std.proofs.Common.{◌≡◌, ℕ, ◌-◌, sym, refl, ap, ◌∙◌, arith}
+use Rattle.std.proofs.Common.{◌≡◌, ◌-◌, ap, ◌∙◌, arith}
 use Rattle.words.specs.Words.{sites_of}
 use Rattle.notebooks.specs.Notebooks.{noted, or_one, told_by}
 use Rattle.tables.specs.Tables.{table_network}

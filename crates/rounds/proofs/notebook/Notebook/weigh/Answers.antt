@@ -1,6 +1,5 @@
 use Rattle.std.proofs.Common.{◌≡◌, ℕ, Bool, true, false, List, map, sym, ap, ◌∙◌}
 use Rattle.sites.specs.Sets.{in_set}
-use Rattle.sites.specs.Lists.{front}
 use Rattle.sites.specs.Keepers.{keepers}
 use Rattle.words.specs.Layout.{path_field}
 use Rattle.theory.specs.Weighing.{zeros}

@@ -1,4 +1,4 @@
-use Rattle.std.proofs.Common.{ℕ, Bool, sym, ap, ◌∙◌}
+use Rattle.std.proofs.Common.{ℕ, sym, ap, ◌∙◌}
 use Rattle.plans.specs.Plans.{network}
 use Rattle.theory.specs.Runs.{phases}
 use Rattle.single_end.specs.Ends.{gone_on}
