@@ -1,7 +1,7 @@
 -- Words that are copied to and from a host's.
-use Rattle.std.proofs.Common.{◌≡◌, ℕ, suc, ◌+◌, ◌*◌, ◌<◌, ◌≤◌, List, [], ◌∷◌, ◌++◌, length, get_or, take, drop, set, Some, None, sym, refl, ap, ◌∙◌, append_assoc, add-one, arith}
+use Rattle.std.proofs.Common.{◌≡◌, ℕ, suc, ◌+◌, ◌*◌, ◌<◌, ◌≤◌, List, [], ◌∷◌, ◌++◌, length, get_or, take, drop, set, Some, None, sym, ap, ◌∙◌, append_assoc, add-one, arith}
 use Rattle.std.specs.List.{slice_get}
-use Rattle.std.proofs.lemmas.List.{take_all, take_more, take_more_set, take_at, drop_more, drop-set-lt, length-take-le, set_at}
+use Rattle.std.proofs.lemmas.List.{take_all, take_more, take_more_set, drop_more, drop-set-lt, length-take-le, set_at}
 use Rattle.std.proofs.lemmas.Option.{slice_get-get_or}
 use Rattle.airs.specs.Lanes.{Lanes, put_next}
 use Rattle.hosts.specs.Answered.{site_of}

@@ -1,5 +1,5 @@
 -- A list of calls in words, one call more.
-use Rattle.std.proofs.Common.{◌≡◌, ℕ, zero, suc, ◌+◌, ◌*◌, ◌<◌, ◌≤◌, List, [], ◌∷◌, ◌++◌, length, get_or, drop, set, Some, None, Ok, Err, Option, Result, sym, refl, ap, ◌∙◌, subst, append_assoc, mul-suc, add-one, arith}
+use Rattle.std.proofs.Common.{◌≡◌, ℕ, zero, suc, ◌+◌, ◌*◌, ◌<◌, ◌≤◌, List, [], ◌∷◌, ◌++◌, length, get_or, drop, set, Some, None, Ok, Err, Option, Result, sym, refl, ap, ◌∙◌, append_assoc, mul-suc, add-one, arith}
 use Rattle.std.proofs.lemmas.List.{drop_more, set_at, length-append}
 use Rattle.sites.specs.declared.refusal.Refusal.{Refusal}
 use Rattle.sheets.specs.declared.refusal.SheetRefusal.{SheetRefusal}

@@ -1,15 +1,14 @@
 -- The phase that comes after weighing fits a word.
-use Rattle.std.proofs.Common.{◌≡◌, ℕ, ◌+◌, ◌^◌, ◌<◌, ◌≤◌, Bool, true, false, cond, ltb, leb, List, length, refl, ap, arith}
+use Rattle.std.proofs.Common.{◌≡◌, ℕ, ◌+◌, ◌^◌, ◌<◌, ◌≤◌, Bool, true, false, cond, ltb, leb, List, refl, arith}
 use Rattle.std.proofs.lemmas.Bool.{leb-true, ltb-true}
 use Rattle.sites.specs.Positions.{all_from}
-use Rattle.sites.specs.Suspects.{suspects}
 use Rattle.sites.proofs.Positions.{all_at}
 use Rattle.theory.specs.Runs.{phases}
 use Rattle.plans.specs.Plans.{network}
 use Rattle.plans.specs.declared.plan.Plan.{Plan}
 use Rattle.plans.proofs.Sets.{number, number_is}
 use Rattle.plans.proofs.Wholes.{plan_sites, plan_rogues}
-use Rattle.single_end.specs.Ends.{InRound, InWeighing, Standing, in_round, done, bit_weighed, gone_on, weighed}
+use Rattle.single_end.specs.Ends.{InRound, InWeighing, in_round, done, bit_weighed, weighed}
 use Rattle.hosts.specs.Ends.{WeighedFits}
 
 few : (n f : ℕ) → n < 7 → f < 3 → number n f ≤ 22

@@ -5,12 +5,11 @@ use Rattle.std.proofs.lemmas.Bool.{and_parts, leb-true}
 use Rattle.sites.specs.declared.refusal.Refusal.{Refusal}
 use Rattle.sites.specs.declared.refusal.Refusal.TheVariants.{SheetSize, Head, Kind, Edge, Path, Fan, NoRoute, NoFan}
 use Rattle.sites.specs.Positions.{first_from}
-use Rattle.sites.specs.Suspects.{suspects}
 use Rattle.sites.proofs.Lists.{get_or_in}
 use Rattle.sites.proofs.Positions.{first_is}
 use Rattle.sites.proofs.Suspects.{suspects_are}
 use Rattle.sheets.specs.declared.refusal.SheetRefusal.{SheetRefusal}
-use Rattle.sheets.specs.Parts.{later, site_count, rogue_limit, head?, word_at}
+use Rattle.sheets.specs.Parts.{later, site_count, rogue_limit}
 use Rattle.sheets.specs.Rows.{size_fault, head_fault, kind_fault, edge_fault, path_fault, fan_fault, bad_kind, bad_edge, bad_path, bad_fan}
 use Rattle.sheets.specs.Refusals.{told, and_then, well_formed}
 use Rattle.sheets.proofs.Passed.{sites_range}

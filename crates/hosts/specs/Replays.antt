@@ -1,5 +1,5 @@
 -- What running a list of calls answers a host, and what it leaves.
-use Rattle.std.specs.Prelude.{◌≡◌, ℕ, ◌*◌, ◌/◌, ◌≤◌, min, List, ◌++◌, length, drop, Ok, Result}
+use Rattle.std.specs.Prelude.{◌≡◌, ℕ, ◌*◌, ◌/◌, min, List, ◌++◌, length, drop, Ok, Result}
 use Rattle.theory.specs.Network.{Network}
 use Rattle.runs.specs.State.{State, opened}
 use Rattle.runs.specs.Replies.{open_reply}

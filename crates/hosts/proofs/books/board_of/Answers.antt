@@ -1,4 +1,3 @@
-use Rattle.std.proofs.Common.{◌≡◌}
 use Rattle.airs.specs.Boards.{board_lanes}
 use Rattle.hosts.proofs.Copies.{heard_more}
 use Rattle.hosts.proofs.books.board_of.Goals as goal

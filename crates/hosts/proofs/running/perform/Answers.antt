@@ -1,4 +1,4 @@
-use Rattle.std.proofs.Common.{◌≡◌, ◌+◌, ◌*◌, ◌≤◌, length, arith}
+use Rattle.std.proofs.Common.{◌+◌, ◌*◌, ◌≤◌, length, arith}
 use Rattle.airs.specs.Boards.{board_lanes}
 use Rattle.floors.specs.Views.{view}
 use Rattle.hosts.proofs.Performs.{state_more, answers_more}

@@ -1,4 +1,4 @@
-use Rattle.std.proofs.Common.{◌≡◌, Result, ap, ◌∙◌}
+use Rattle.std.proofs.Common.{Result, ap, ◌∙◌}
 use Rattle.runs.specs.State.{opened}
 use Rattle.hosts.specs.declared.refused.HostRefusal.{HostRefusal}
 use Rattle.hosts.specs.Answered.{answered, left_by}
