@@ -1,4 +1,4 @@
-ghost use Rattle.std.specs.Prelude.{◌≡◌, ℕ, ◌<◌, ◌≤◌, true, false, ◌&&◌, length, slice_index};
+ghost use Rattle.std.specs.Prelude.{◌≡◌, ℕ, ◌+◌, ◌^◌, ◌<◌, ◌≤◌, true, false, ◌&&◌, length, slice_index};
 ghost use Rattle.sites.specs.Sets.{in_set};
 ghost use Rattle.sheets.specs.Parts.{source, avoids as does_avoid};
 ghost use Rattle.sheets.specs.Rows.{first_fan};
@@ -76,6 +76,14 @@ fn is_serving(run: &[u32], set: SiteMask, at: u8, among: SiteMask) -> bool
     true
 }
 
+// The place behind the fan at a place: each fan is tried, none is passed over.
+fn behind(place: usize, size: usize) -> usize
+    requires { place + size < 2 ^ 64 }
+    ensures { result ≡ place + size }
+{
+    place + size
+}
+
 // The place of the first fan at a site that begins in a set and avoids another set. Fans stand one behind
 // the other from the first fan path on, so that only every (f + 1)-th word is tried.
 pub(crate) fn first_serving(
@@ -94,7 +102,7 @@ pub(crate) fn first_serving(
         if is_serving(&words[i..i + size], set, at, among) {
             return Some(i);
         }
-        i += size;
+        i = behind(i, size);
     }
     None
 }

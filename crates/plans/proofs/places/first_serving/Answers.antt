@@ -23,8 +23,14 @@ returns-then-is_serving c =
 
 pub loop-i-preserved : goal.loop-i-preserved
 loop-i-preserved c =
-    fan_next c.args.words.now c.args.set.bits c.args.at c.args.among.bits (c.rogue_limit.result + 1) (ap (λ (x : ℕ). x + 1) c.rogue_limit.ensures) c.loop-i.i
-    c.loop-i.invariant.0 c.loop-i.invariant.1 (omega arith) (omega arith) (sym c.if-is_serving.ensures)
+    let ws = c.args.words.now in
+    let F = c.args.set.bits in
+    let v = c.args.at in
+    let A = c.args.among.bits in
+    let next =
+    fan_next ws F v A (c.rogue_limit.result + 1) (ap (λ (x : ℕ). x + 1) c.rogue_limit.ensures) c.loop-i.i
+    c.loop-i.invariant.0 c.loop-i.invariant.1 (omega arith) (omega arith) (sym c.if-is_serving.ensures) in
+    subst (λ (x : ℕ). (fan_starts ws x ≡ true) × (first_from (fan_here ws F v A) x (length ws - x) ≡ fan_place ws F v A)) (sym c.behind-i.ensures) next
 
 pub returns-else-words-i : goal.returns-else-words-i
 returns-else-words-i c =
