@@ -7,8 +7,7 @@
  * time, each on slices of its own.
  *
  * Every function answers 0, or the number of a refusal. A refused call leaves every slice as it was, but for the place
- * that rolgevin_check tells. docs/HOSTS.md says what the words mean, docs/FORMATS.md what a sheet is, and
- * docs/REFUSALS.md has the numbers of the engine.
+ * that rolgevin_check tells. docs/FORMATS.md says what a sheet is, and docs/REFUSALS.md has the numbers of the engine.
  */
 #ifndef ROLGEVIN_H
 #define ROLGEVIN_H
@@ -37,7 +36,12 @@ enum {
   ROLGEVIN_RECALLED = 6  /* asks for the bit noted for a path, given as its flood word with bit 0 */
 };
 
-/* The tags of a single end's states, and how many words each slice has to have. */
+/* A single end's state is seven words: the tag, the site, its bit (0 or 1), the phase (from 0), the round (from 1), and
+ * the n and f of the sheet that it began with. Weighing has round 0, and done has zeros for all but its tag and its bit.
+ * A notebook is 325 words, of which only bit 0 counts: the word at place i is of the i-th path along which the site
+ * expects a bit, by length, then ascending. docs/SINGLE-END.md says how an end is driven.
+ *
+ * The tags of the states, and how many words each slice has to have: */
 enum {
   ROLGEVIN_END_ROUND = 1,
   ROLGEVIN_END_WEIGHING = 2,
@@ -57,7 +61,8 @@ uint32_t rolgevin_check(const uint32_t *sheet, size_t sheet_len, uint32_t *place
 uint32_t rolgevin_run(const uint32_t *sheet, size_t sheet_len, uint32_t rogues, uint32_t bits,
                       const uint32_t *calls, size_t calls_len, uint32_t *answers, size_t answers_len);
 
-/* Begins a single end for a site with a bit. Answers 0, 101, 1 to 8, 102 or 21. */
+/* Begins a single end for a site with a bit: the first seven words of state are its first round. Answers 0, 101, 1 to
+ * 8, 102 or 21. */
 uint32_t rolgevin_end_begin(const uint32_t *sheet, size_t sheet_len, uint32_t site, uint32_t bit,
                             uint32_t *state, size_t state_len);
 
@@ -66,12 +71,14 @@ uint32_t rolgevin_end_begin(const uint32_t *sheet, size_t sheet_len, uint32_t si
 uint32_t rolgevin_end_speak(const uint32_t *sheet, size_t sheet_len, const uint32_t *state, size_t state_len,
                             const uint32_t *notebook, size_t notebook_len, uint32_t *words, size_t words_len);
 
-/* Has the end take its round, with the pairs of words, site and word, that were heard in it. Answers 0, 101, 1 to 8,
- * 102 or 14. */
+/* Has the end take its round, with the pairs of words, site and word, that were heard in it, each site's in the order in
+ * which they came; past the 120th of a site they do not count. The state becomes the next round or weighing, and the
+ * notebook has what was heard. Answers 0, 101, 1 to 8, 102 or 14. */
 uint32_t rolgevin_end_take(const uint32_t *sheet, size_t sheet_len, uint32_t *state, size_t state_len,
                            const uint32_t *heard, size_t heard_len, uint32_t *notebook, size_t notebook_len);
 
-/* Has the end weigh its phase by its notebook. Answers 0, 101, 1 to 8, 102 or 14. */
+/* Has the end weigh its phase by its notebook: the state becomes round 1 of the next phase, or done. Answers 0, 101, 1 to
+ * 8, 102 or 14. */
 uint32_t rolgevin_end_weigh(const uint32_t *sheet, size_t sheet_len, uint32_t *state, size_t state_len,
                             const uint32_t *notebook, size_t notebook_len);
 

@@ -1,4 +1,4 @@
-//! The engine, by the functions that the static library exports (docs/HOSTS.md).
+//! The engine, by the functions that the static library exports (hosts/rolgevin.h).
 
 #[link(name = "hosts", kind = "static")]
 extern "C" {

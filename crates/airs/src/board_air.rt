@@ -2,7 +2,7 @@ ghost use Rattle.std.specs.Prelude.{◌≡◌, ℕ, ◌<◌, [], ◌∷◌, ◌+
 ghost use Rattle.std.specs.List.{slice_get};
 ghost use Rattle.airs.specs.Lanes.{silent, added, count_of, word_at};
 ghost use Rattle.airs.specs.Boards.{words_of, board_lanes};
-ghost use Rattle.std.proofs.Common.{rules};
+ghost use Rattle.std.proofs.Common.{lit≤, refl};
 
 use super::air::Air;
 use super::board::{Board, Lane};
@@ -72,9 +72,9 @@ impl Air for Board {
 
     ghost lanes = { board_lanes };
 
-    ghost wide = { Prim.search rules };
+    ghost wide = { lit≤ tt };
 
-    ghost six = { Prim.search rules };
+    ghost six = { λ a. refl };
 
     fn lane_size(&self) -> usize {
         Self::LANE_WORDS
