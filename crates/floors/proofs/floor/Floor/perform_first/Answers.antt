@@ -1,10 +1,10 @@
-use Rattle.std.proofs.Common.{◌≡◌, ℕ, ◌<◌, ◌≤◌, ◌++◌, length, take, drop, ap, ◌∙◌, arith}
+use Rattle.std.proofs.Common.{◌≡◌, ℕ, ◌<◌, ◌≤◌, ◌++◌, length, take, drop, Ok, ap, ◌∙◌, arith}
 use Rattle.runs.specs.declared.calls.Call.TheVariants.{Transmit}
-use Rattle.runs.specs.declared.calls.Answer.TheVariants.{Count}
+use Rattle.runs.specs.declared.calls.Value.TheVariants.{Count}
 use Rattle.runs.specs.Runs.{after, answers}
 use Rattle.plans.proofs.Wholes.{plan_lawful}
 use Rattle.floors.specs.Views.{view}
-use Rattle.floors.proofs.Six.{base_few}
+use Rattle.site_plans.proofs.Made.{base_few}
 use Rattle.floors.proofs.Performs.{after_more, answers_more, answered, performed}
 use Rattle.floors.proofs.floor.Floor.perform_first.Goals as goal
 
@@ -20,7 +20,7 @@ loop-i-preserved g c =
     let l : i < length cs = omega (arith, c.requires.0) in
     let m : i < length old = omega (arith, c.requires.1) in (
       after_more z st mid _ cs i (Transmit 0 0) l inv.0 c.perform_one.ensures.after,
-      answers_more z st mid cs old c.loop-i.answers i (Transmit 0 0) c.perform_one.result (Count 0) l m inv.0 inv.1 c.perform_one.ensures.answer,
+      answers_more z st mid cs old c.loop-i.answers i (Transmit 0 0) c.perform_one.result (Ok (Count 0)) l m inv.0 inv.1 c.perform_one.ensures.answer,
       c.perform_one.ensures.plan ∙ inv.2,
     )
 
