@@ -6,7 +6,6 @@ mod laws;
 mod notebook;
 mod recalling;
 mod speaking;
-mod speaking_by_bits;
 mod weighing;
 
 pub use hearing::heard;

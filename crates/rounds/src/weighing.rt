@@ -1,4 +1,4 @@
-ghost use Rattle.std.specs.Prelude.{◌≡◌, ◌-◌, ◌/◌, ◌^◌, true, map, is_some, if◌then◌else◌, Decides, bit_and, count_ones, nat_eq};
+ghost use Rattle.std.specs.Prelude.{◌≡◌, true, map, is_some, if◌then◌else◌, Decides, nat_eq};
 ghost use Rattle.std.specs.List.{AllByRecursion};
 ghost use Rattle.sites.specs.Lists.{front};
 ghost use Rattle.sites.specs.Keepers.{keepers as keepers_by};
@@ -9,30 +9,9 @@ ghost use Rattle.notebooks.specs.Notebooks.{told_by};
 ghost use Rattle.tables.specs.Tables.{table_network};
 
 use crate::notebook::Notebook;
-use sites::SiteMask;
+use sites::{NetworkSize, SiteMask};
 use tables::{PathTable, Routing};
 use words::PathWord;
-
-// The set of all sites.
-fn all_sites<P: Routing>(plan: &P) -> u32
-    ensures { result ≡ 2 ^ (P.network plan.now).n - 1 }
-{
-    (1 << plan.site_count()) - 1
-}
-
-// Half a number, rounded down.
-fn half(limit: u32) -> u32
-    ensures { result ≡ limit / 2 }
-{
-    limit / 2
-}
-
-// How many suspects have bit 0.
-fn zero_suspects(set: SiteMask, zeros: SiteMask) -> u32
-    ensures { result ≡ count_ones (bit_and zeros.bits set.bits) }
-{
-    zeros.and(set).count()
-}
 
 /// The set A of the sites that keep their bits, where a set is suspected and the sites of Z have bit 0; N are the others
 /// of the n sites, and B is the other one of Z and N.
@@ -46,20 +25,9 @@ fn zero_suspects(set: SiteMask, zeros: SiteMask) -> u32
 pub fn keepers<P: Routing>(plan: &P, set: SiteMask, zeros: SiteMask) -> SiteMask
     ensures { result.bits ≡ keepers_by (P.network plan.now).n (P.network plan.now).f set.bits zeros.bits }
 {
-    let limit = plan.rogue_limit() as u32;
-    let rest = SiteMask {
-        bits: all_sites(plan).saturating_sub(zeros.bits),
-    };
-    if zero_suspects(set, zeros) <= half(limit) {
-        if rest.count() > limit {
-            return rest;
-        }
-        return zeros;
-    }
-    if zeros.count() > limit {
-        return zeros;
-    }
-    rest
+    let sites = plan.site_count();
+    let rogues = plan.rogue_limit();
+    NetworkSize { sites, rogues }.keepers(set, zeros)
 }
 
 impl Notebook {
@@ -105,10 +73,7 @@ impl Notebook {
         requires { is_some (meaning word) ≡ true }
         ensures { result ≡ told_by (table_network table.now) table.now.site self.now.words (front (path_field word)) }
     {
-        match PathWord::read(word) {
-            Ok(path) => self.told_front(table, &path.path()),
-            Err(_) => true,
-        }
+        PathWord::read(word).map_or(true, |path| self.told_front(table, &path.path()))
     }
 
     // Whether a path of a fan brought a bit.
