@@ -1,5 +1,5 @@
 -- The flood word of a path, written and read.
-use Rattle.std.proofs.Common.{◌≡◌, ℕ, ◌-◌, ◌^◌, ◌<◌, Bool, true, false, cond, eqb, leb, List, length, is_some, Some, None, Option, Ok, Err, Result, MatchResult, sym, refl, ap, ◌∙◌, arith}
+use Rattle.std.proofs.Common.{◌≡◌, ℕ, ◌-◌, ◌^◌, ◌<◌, Bool, true, false, cond, eqb, leb, List, length, Some, None, Option, Ok, Err, Result, MatchResult, sym, refl, ap, ◌∙◌, arith}
 use Rattle.std.specs.Option.{option_map}
 use Rattle.std.proofs.lemmas.Bool.{and_parts, and_from, le-leb, leb-true, both_ways}
 use Rattle.sites.specs.Lists.{front}
@@ -8,7 +8,7 @@ use Rattle.words.specs.declared.kind.Kind.TheVariants.{Flood, Route, Fan}
 use Rattle.words.specs.Kinds.{suits, kind_named}
 use Rattle.words.specs.Layout.{kind_field, path_field}
 use Rattle.words.specs.Paths.{path?}
-use Rattle.words.specs.Words.{Meaning, lawful?, word_of, fields_as, meaning_as, meaning, meaning_of, MakesWord, Reads}
+use Rattle.words.specs.Words.{Meaning, lawful?, word_of, fields_as, meaning_as, meaning, meaning_of, MakesWord}
 use Rattle.words.specs.declared.path.PathWord.{PathWord}
 use Rattle.sites.specs.declared.refusal.Refusal.{Refusal}
 use Rattle.theory.specs.Network.{Network}
@@ -95,8 +95,3 @@ sites_read w m = as_kind (kind_named (kind_field w))
     as_kind : (o : Option Kind) → meaning_as w o ≡ Some m → m.sites ≡ path_field w
     as_kind None e = absurd (let z : ◌≡◌ {A = ℕ} 0 1 = cc in omega arith)
     as_kind (Some k) e = as_test _ k e
-
--- what is told of the path of a lawful word, when it is read
-pub read_along : (B : List ℕ → Bool) (w : ℕ) (r : Result PathWord Refusal) (x : Bool) → is_some (meaning w) ≡ true → Reads w r → MatchResult r (λ p. x ≡ B (meaning_of p).sites) (λ _. x ≡ true) → x ≡ B (path_field w)
-read_along B w (Ok p) x lawful read e = e ∙ ap B (sites_read w (meaning_of p) read)
-read_along B w (Err d) x lawful read e = absurd (both_ways true (sym lawful ∙ ap is_some read.0) refl)

@@ -4,6 +4,7 @@ mod ears;
 mod hearing;
 mod laws;
 mod notebook;
+mod phase;
 mod recalling;
 mod speaking;
 mod weighing;

@@ -12,7 +12,7 @@ use tables::PathTable;
 use words::{Kind, Path, PathWord};
 
 // A path without its last site; the empty path for the empty one.
-fn front_of(path: &Path) -> Path
+pub(crate) fn front_of(path: &Path) -> Path
     ensures { sites_of result ≡ front (sites_of path.now) }
 {
     let sites = path.sites();
@@ -99,12 +99,5 @@ impl Notebook {
     {
         let rounds = (table.site_count() as usize).saturating_sub(1);
         self.noted(table, path, rounds).unwrap_or(true)
-    }
-
-    // What it tells of a path without its last site.
-    pub(crate) fn told_front(&self, table: &PathTable, path: &Path) -> bool
-        ensures { result ≡ told_by (table_network table.now) table.now.site self.now.words (front (sites_of path.now)) }
-    {
-        self.told(table, &front_of(path))
     }
 }
