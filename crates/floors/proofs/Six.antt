@@ -14,15 +14,6 @@ use Rattle.site_plans.specs.declared.site_plan.SitePlan.{SitePlan}
 use Rattle.tables.proofs.Edges.{edges_law}
 use Rattle.floors.specs.Tables.{site_network, table_site, table_count, level_at, same_paths, Fits}
 
-pub six_cases : (P : ℕ → Type 0) → P 0 → P 1 → P 2 → P 3 → P 4 → P 5 → (s : ℕ) → s < 6 → P s
-six_cases P a b c d e f zero l = a
-six_cases P a b c d e f (suc zero) l = b
-six_cases P a b c d e f (suc (suc zero)) l = c
-six_cases P a b c d e f (suc (suc (suc zero))) l = d
-six_cases P a b c d e f (suc (suc (suc (suc zero)))) l = e
-six_cases P a b c d e f (suc (suc (suc (suc (suc zero))))) l = f
-six_cases P a b c d e f (suc (suc (suc (suc (suc (suc s)))))) l = absurd (omega arith)
-
 pub same_paths_refl : (ps : List (List ℕ)) → same_paths ps ps ≡ true
 same_paths_refl [] = refl
 same_paths_refl (p ∷ ps) = and_from (same_path p p) (same_paths ps ps) (same_path_refl p) (same_paths_refl ps)

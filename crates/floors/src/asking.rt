@@ -1,4 +1,4 @@
-ghost use Rattle.std.specs.Prelude.{◌≡◌, ◌≤◌, Ok};
+ghost use Rattle.std.specs.Prelude.{◌≡◌, ◌<◌, ◌≤◌, Ok, OnOk};
 ghost use Rattle.runs.specs.State.{over, phase, round};
 ghost use Rattle.runs.specs.Replies.{for_sound, held_reply, decision_reply};
 ghost use Rattle.floors.specs.Views.{view, plan_sheet};
@@ -41,7 +41,8 @@ impl<A: Air> Floor<A> {
 
     // 21 for a site not below n, 23 for a rogue.
     pub(crate) fn sound(&self, site: u8) -> Result<(), Refusal>
-        ensures { result ≡ for_sound (view A.lanes self.now) site (Ok tt) }
+        ensures answer { result ≡ for_sound (view A.lanes self.now) site (Ok tt) }
+        ensures six { OnOk result (site < 6) }
     {
         if site >= self.site_count() {
             return Err(Refusal::NoSite);
@@ -57,7 +58,7 @@ impl<A: Air> Floor<A> {
         ensures { result ≡ held_reply (view A.lanes self.now) site }
     {
         self.sound(site)?;
-        Ok(self.records.bit(site))
+        Ok(self.records.of(site).bit)
     }
 
     /// The bit that a sound site holds after the last phase: 21, 23, and 28 before that phase has ended.

@@ -4,6 +4,7 @@ ghost use Rattle.floors.specs.Tables.{site_network, Fits};
 use crate::ground::Ground;
 use plans::Plan;
 use site_plans::SitePlan;
+use std::array;
 use tables::{PathTable, Wiring};
 
 impl Ground {
@@ -13,14 +14,7 @@ impl Ground {
     {
         let base = SitePlan { plan: *plan };
         let wiring = Wiring::of(&base);
-        let tables = [
-            PathTable::of(&wiring, 0),
-            PathTable::of(&wiring, 1),
-            PathTable::of(&wiring, 2),
-            PathTable::of(&wiring, 3),
-            PathTable::of(&wiring, 4),
-            PathTable::of(&wiring, 5),
-        ];
+        let tables = array::from_fn(|site| PathTable::of(&wiring, site as u8));
         Ground { base, tables }
     }
 
