@@ -19,6 +19,7 @@ impl Ground {
     }
 
     // The table of a site.
+    #[tactic(auto, using(site_plans::proofs::Made::base_few))]
     pub(crate) fn table(&self, site: u8) -> &PathTable
         requires { site < (site_network self.now.base).n }
         ensures { Fits (site_network self.now.base) site result.now }

@@ -13,14 +13,14 @@ impl<A: Air> Floor<A> {
     fn rounds_heard(&self) -> usize
         ensures { result ≡ rounds_noted (view A.lanes self.now).net (view A.lanes self.now).turns }
     {
-        let rounds = self.site_count() as usize - 1;
         if self.turns == 0 {
             return 0;
         }
-        (self.turns - 1) % rounds + 1
+        (self.turns - 1) % self.rounds() + 1
     }
 
     // 5 for a word that asks for no path: any notebook refuses it.
+    #[tactic(auto, using(site_plans::proofs::Made::base_some))]
     fn asks(&self, word: u32) -> Result<(), Refusal>
         ensures { result ≡ asks_reply (flood_in word) }
     {
