@@ -5,3 +5,4 @@ pub mod Speaks
 pub mod Turned
 pub mod Recalls
 pub mod Performs
+pub mod Ranges

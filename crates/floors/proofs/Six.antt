@@ -1,5 +1,5 @@
 -- Six tables, one a site, and lists of paths.
-use Rattle.std.proofs.Common.{◌≡◌, ℕ, zero, suc, ◌<◌, ◌≤◌, true, List, [], ◌∷◌, map, length, get_or, sym, refl, ap, ◌∙◌, arith}
+use Rattle.std.proofs.Common.{◌≡◌, ℕ, ◌<◌, true, List, [], ◌∷◌, map, length, get_or, sym, refl, ap, ◌∙◌, arith}
 use Rattle.std.proofs.lemmas.List.{get_or-map}
 use Rattle.std.proofs.lemmas.Bool.{and_parts, and_from}
 use Rattle.sites.specs.Lists.{same_path}
@@ -13,15 +13,6 @@ use Rattle.tables.specs.declared.wiring.Wiring.{Wiring}
 use Rattle.site_plans.specs.declared.site_plan.SitePlan.{SitePlan}
 use Rattle.tables.proofs.Edges.{edges_law}
 use Rattle.floors.specs.Tables.{site_network, table_site, table_count, level_at, same_paths, Fits}
-
-pub six_cases : (P : ℕ → Type 0) → P 0 → P 1 → P 2 → P 3 → P 4 → P 5 → (s : ℕ) → s < 6 → P s
-six_cases P a b c d e f zero l = a
-six_cases P a b c d e f (suc zero) l = b
-six_cases P a b c d e f (suc (suc zero)) l = c
-six_cases P a b c d e f (suc (suc (suc zero))) l = d
-six_cases P a b c d e f (suc (suc (suc (suc zero)))) l = e
-six_cases P a b c d e f (suc (suc (suc (suc (suc zero))))) l = f
-six_cases P a b c d e f (suc (suc (suc (suc (suc (suc s)))))) l = absurd (omega arith)
 
 pub same_paths_refl : (ps : List (List ℕ)) → same_paths ps ps ≡ true
 same_paths_refl [] = refl

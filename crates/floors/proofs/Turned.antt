@@ -1,7 +1,8 @@
 -- What a turn does to one record, and to all.
-use Rattle.std.proofs.Common.{◌≡◌, ℕ, ◌+◌, ◌-◌, ◌/◌, ◌%◌, ◌<◌, ◌≤◌, Bool, true, false, cond, eqb, List, length, get_or, set, sym, refl, ap, ◌∙◌, ⊎_elim, arith, eq-eqb, ne_eqb}
+use Rattle.std.proofs.Common.{◌≡◌, ℕ, ◌+◌, ◌-◌, ◌/◌, ◌%◌, ◌<◌, ◌≤◌, Bool, true, false, cond, not, eqb, ltb, List, length, get_or, set, sym, refl, ap, ◌∙◌, ⊎_elim, arith, eq-eqb, ne_eqb}
 use Rattle.std.proofs.lemmas.List.{get_or-set_same, get_or-set_other, length-set}
-use Rattle.std.proofs.lemmas.Bool.{cases_eq}
+use Rattle.std.proofs.lemmas.Bool.{cases_eq, ltb-true, and_parts, cond-true}
+use Rattle.sites.specs.Sets.{in_set}
 use Rattle.theory.specs.Network.{Network}
 use Rattle.theory.specs.Weighing.{weigh}
 use Rattle.theory.specs.Runs.{suspect}
@@ -17,7 +18,10 @@ use Rattle.site_plans.proofs.Fitted.{note_fits, told_fits}
 
 -- ---- one record
 
-module _ (N : Network) (s : ℕ) (t : PathTable) (fits : Fits N s t) (below : s < N.n) (ls : Lanes) (turns : ℕ) (x : SiteRecord) where
+module _ (N : Network) (s : ℕ) (t : PathTable) (fits : Fits N s t) (rogues : ℕ) (sound : is_sound N rogues s ≡ true) (ls : Lanes) (turns : ℕ) (x : SiteRecord) where
+  below : s < N.n
+  below = ltb-true s N.n (and_parts (ltb s N.n) (not (in_set rogues s)) sound).0
+
   abbrev r0 : ℕ
   r0 = turns % (N.n - 1) + 1
 
@@ -29,13 +33,14 @@ module _ (N : Network) (s : ℕ) (t : PathTable) (fits : Fits N s t) (below : s 
       ap (λ (k : ℕ). noted_by t ls k x) e
       ∙ ap (λ (b : List ℕ). record { holds = x.holds; spoken = false; notebook = b }) (note_fits N s t fits below r0 (heard_in (lane ls)) (cond (eqb r0 1) empty_book x.notebook))
 
-  pub turned_else : (r : ℕ) → r ≡ r0 → (r ≡ N.n - 1 → ⊥) → noted_by t ls r x ≡ turned_by N ls turns s x
+  pub turned_else : (r : ℕ) → r ≡ r0 → (r ≡ N.n - 1 → ⊥) → noted_by t ls r x ≡ cond (is_sound N rogues s) (turned_by N ls turns s x) x
   turned_else r e h =
       heard_is r e
       ∙ ap (λ (b : Bool). record { holds = cond b (weigh N (told_by N s heard.notebook) (suspect N (turns / (N.n - 1))) x.holds s) x.holds; spoken = false; notebook = heard.notebook })
       (sym (ne_eqb r0 (N.n - 1) (λ k. h (e ∙ k))))
+      ∙ sym (cond-true (is_sound N rogues s) (turned_by N ls turns s x) x sound)
 
-  pub turned_then : (r F : ℕ) → r ≡ r0 → r ≡ N.n - 1 → F ≡ suspect N (turns / (N.n - 1)) → weighed_by N t F (noted_by t ls r x) ≡ turned_by N ls turns s x
+  pub turned_then : (r F : ℕ) → r ≡ r0 → r ≡ N.n - 1 → F ≡ suspect N (turns / (N.n - 1)) → weighed_by N t F (noted_by t ls r x) ≡ cond (is_sound N rogues s) (turned_by N ls turns s x) x
   turned_then r F e h f =
       ap (weighed_by N t F) (heard_is r e)
       ∙ ap (λ (hear : List ℕ → Bool). record { holds = weigh N hear F x.holds t.site; spoken = false; notebook = heard.notebook }) (told_fits N s t fits below heard.notebook)
@@ -43,16 +48,13 @@ module _ (N : Network) (s : ℕ) (t : PathTable) (fits : Fits N s t) (below : s 
       ∙ ap (λ (k : ℕ). record { holds = weigh N (told_by N s heard.notebook) k x.holds s; spoken = false; notebook = heard.notebook }) f
       ∙ ap (λ (b : Bool). record { holds = cond b (weigh N (told_by N s heard.notebook) (suspect N (turns / (N.n - 1))) x.holds s) x.holds; spoken = false; notebook = heard.notebook })
       (sym (eq-eqb r0 (N.n - 1) (sym e ∙ h)))
+      ∙ sym (cond-true (is_sound N rogues s) (turned_by N ls turns s x) x sound)
 
 -- ---- all records
 
-module _ (st : State) where
-  pub turned_sound : (v : ℕ) → is_sound st.net st.rogues v ≡ true → turned_by st.net st.lanes st.turns v (site st v) ≡ turned_site st v
-  unfolding noting weighed
-  turned_sound v e = sym (ap (λ (b : Bool). cond b (record { holds = weighed st v; spoken = false; notebook = noting st v }) (site st v)) e)
-
-  pub turned_other : (v : ℕ) → is_sound st.net st.rogues v ≡ false → site st v ≡ turned_site st v
-  turned_other v e = sym (ap (λ (b : Bool). cond b (record { holds = weighed st v; spoken = false; notebook = noting st v }) (site st v)) e)
+pub turned_each : (st : State) (v : ℕ) → cond (is_sound st.net st.rogues v) (turned_by st.net st.lanes st.turns v (site st v)) (site st v) ≡ turned_site st v
+unfolding noting weighed
+turned_each st v = refl
 
 -- the records of the first i sites are done, the others are as they were
 pub record Done (F : ℕ → SiteRecord) (old : List SiteRecord) (i : ℕ) (xs : List SiteRecord) : Type 0 where
@@ -69,16 +71,3 @@ done_set F old xs i y l d e = record {
       (cases_eq k i);
   still = λ k h. get_or-set_other xs i k y blank (λ q. omega arith) ∙ d.still k (omega arith);
 }
-
-pub done_same : (F : ℕ → SiteRecord) (old xs : List SiteRecord) (i : ℕ) → Done F old i xs → get_or old i blank ≡ F i → Done F old (i + 1) xs
-done_same F old xs i d e = record {
-  six = d.six;
-  done = λ k h. ⊎_elim
-      (λ (q : k ≡ i). ap (λ (j : ℕ). get_or xs j blank) q ∙ d.still i (omega arith) ∙ e ∙ ap F (sym q))
-      (λ q. d.done k (omega arith))
-      (cases_eq k i);
-  still = λ k h. d.still k (omega arith);
-}
-
-pub done_none : (F : ℕ → SiteRecord) (old : List SiteRecord) → length old ≡ 6 → Done F old 0 old
-done_none F old e = record { six = e; done = λ k h. absurd (omega arith); still = λ k h. refl }

@@ -59,7 +59,7 @@ impl<A: Air> Floor<A> {
         if self.is_over() {
             return Err(Refusal::Over);
         }
-        if self.records.has_spoken(site) {
+        if self.records.of(site).spoken {
             return Err(Refusal::Spoken);
         }
         if self.air.count(site) > self.air.lane_size() {

@@ -3,12 +3,6 @@ use Rattle.site_plans.proofs.Made.{base_few}
 use Rattle.floors.proofs.Six.{table_fits}
 use Rattle.floors.proofs.ground.Ground.table.Goals as goal
 
-pub listed : goal.listed
-listed c = omega (arith, c.requires, base_few c.args.self.now.base, c.args.self.now.six)
-
-pub bounds-self-site : goal.bounds-self-site
-bounds-self-site c = omega (arith, c.requires, base_few c.args.self.now.base)
-
 pub returns : goal.returns
 returns c =
     let g = c.args.self.now in
