@@ -8,7 +8,7 @@ use Rattle.sites.proofs.Positions.{all_at}
 use Rattle.theory.specs.Runs.{phases}
 use Rattle.plans.specs.Plans.{network}
 use Rattle.plans.specs.declared.plan.Plan.{Plan}
-use Rattle.plans.proofs.Sets.{number, number_is}
+use Rattle.sites.proofs.Table.{number, number_is}
 use Rattle.plans.proofs.Wholes.{plan_sites, plan_rogues}
 use Rattle.single_end.specs.Ends.{InRound, InWeighing, in_round, done, bit_weighed, weighed}
 use Rattle.single_end.specs.Calls.{seen_weighed, Weighs}
