@@ -1,5 +1,3 @@
-pub mod FanWords
-pub mod Fitted
 pub mod Six
 pub mod Seen
 pub mod Turns

@@ -1,9 +1,7 @@
 -- What a turn does to one record, and to all.
-use Rattle.std.proofs.Common.{◌≡◌, ℕ, ◌+◌, ◌-◌, ◌/◌, ◌%◌, ◌<◌, ◌≤◌, Bool, true, false, cond, eqb, ltb, List, length, get_or, set, Some, None, sym, refl, ap, ◌∙◌, ⊎_elim, arith, eq-eqb, ne_eqb}
-use Rattle.std.proofs.lemmas.List.{get_or_past, get_or-set_same, get_or-set_other, length-set}
+use Rattle.std.proofs.Common.{◌≡◌, ℕ, ◌+◌, ◌-◌, ◌/◌, ◌%◌, ◌<◌, ◌≤◌, Bool, true, false, cond, eqb, List, length, get_or, set, sym, refl, ap, ◌∙◌, ⊎_elim, arith, eq-eqb, ne_eqb}
+use Rattle.std.proofs.lemmas.List.{get_or-set_same, get_or-set_other, length-set}
 use Rattle.std.proofs.lemmas.Bool.{cases_eq}
-use Rattle.std.proofs.lemmas.Bool.Decides.{nat_tests}
-use Rattle.sites.specs.Suspects.{suspects}
 use Rattle.theory.specs.Network.{Network}
 use Rattle.theory.specs.Weighing.{weigh}
 use Rattle.theory.specs.Runs.{suspect}
@@ -15,31 +13,11 @@ use Rattle.runs.specs.State.{State, SiteRecord, blank, site, is_sound}
 use Rattle.runs.specs.Replies.{noting, weighed, turned_site}
 use Rattle.floors.specs.Tables.{Fits}
 use Rattle.floors.specs.Turns.{noting_in, noted_by, weighed_by, turned_by}
-use Rattle.floors.proofs.Fitted.{note_fits, told_fits}
-
--- ---- the suspect set of a phase
-
-some_cond : (b : Bool) (x y : ℕ) → Some x ≡ cond b (Some y) None → x ≡ y
-some_cond true x y e = cc
-some_cond false x y e = absurd (let z : ◌≡◌ {A = ℕ} 0 1 = cc in omega arith)
-
-none_cond : (b : Bool) (y : ℕ) → None ≡ cond b (Some y) None → b ≡ false
-none_cond true y e = absurd (let z : ◌≡◌ {A = ℕ} 0 1 = cc in omega arith)
-none_cond false y e = refl
-
-pub suspect_some : (N : Network) (p x : ℕ) → Some x ≡ cond (ltb p (length (suspects N.n N.f))) (Some (get_or (suspects N.n N.f) p 0)) None → x ≡ suspect N p
-unfolding suspect
-suspect_some N p x e = some_cond (ltb p (length (suspects N.n N.f))) x (get_or (suspects N.n N.f) p 0) e
-
-pub suspect_none : (N : Network) (p : ℕ) → None ≡ cond (ltb p (length (suspects N.n N.f))) (Some (get_or (suspects N.n N.f) p 0)) None → 0 ≡ suspect N p
-unfolding suspect
-suspect_none N p e =
-    let past : length (suspects N.n N.f) ≤ p = let b = none_cond (ltb p (length (suspects N.n N.f))) _ e in grind (arith, nat_tests) in
-    sym (get_or_past (suspects N.n N.f) p 0 past)
+use Rattle.site_plans.proofs.Fitted.{note_fits, told_fits}
 
 -- ---- one record
 
-module _ (N : Network) (s : ℕ) (t : PathTable) (fits : Fits N s t) (ls : Lanes) (turns : ℕ) (x : SiteRecord) where
+module _ (N : Network) (s : ℕ) (t : PathTable) (fits : Fits N s t) (below : s < N.n) (ls : Lanes) (turns : ℕ) (x : SiteRecord) where
   abbrev r0 : ℕ
   r0 = turns % (N.n - 1) + 1
 
@@ -49,7 +27,7 @@ module _ (N : Network) (s : ℕ) (t : PathTable) (fits : Fits N s t) (ls : Lanes
   heard_is : (r : ℕ) → r ≡ r0 → noted_by t ls r x ≡ heard
   heard_is r e =
       ap (λ (k : ℕ). noted_by t ls k x) e
-      ∙ ap (λ (b : List ℕ). record { holds = x.holds; spoken = false; notebook = b }) (note_fits N s t fits r0 (heard_in (lane ls)) (cond (eqb r0 1) empty_book x.notebook))
+      ∙ ap (λ (b : List ℕ). record { holds = x.holds; spoken = false; notebook = b }) (note_fits N s t fits below r0 (heard_in (lane ls)) (cond (eqb r0 1) empty_book x.notebook))
 
   pub turned_else : (r : ℕ) → r ≡ r0 → (r ≡ N.n - 1 → ⊥) → noted_by t ls r x ≡ turned_by N ls turns s x
   turned_else r e h =
@@ -60,7 +38,7 @@ module _ (N : Network) (s : ℕ) (t : PathTable) (fits : Fits N s t) (ls : Lanes
   pub turned_then : (r F : ℕ) → r ≡ r0 → r ≡ N.n - 1 → F ≡ suspect N (turns / (N.n - 1)) → weighed_by N t F (noted_by t ls r x) ≡ turned_by N ls turns s x
   turned_then r F e h f =
       ap (weighed_by N t F) (heard_is r e)
-      ∙ ap (λ (hear : List ℕ → Bool). record { holds = weigh N hear F x.holds t.site; spoken = false; notebook = heard.notebook }) (told_fits N s t fits heard.notebook)
+      ∙ ap (λ (hear : List ℕ → Bool). record { holds = weigh N hear F x.holds t.site; spoken = false; notebook = heard.notebook }) (told_fits N s t fits below heard.notebook)
       ∙ ap (λ (v : ℕ). record { holds = weigh N (told_by N s heard.notebook) F x.holds v; spoken = false; notebook = heard.notebook }) fits.site
       ∙ ap (λ (k : ℕ). record { holds = weigh N (told_by N s heard.notebook) k x.holds s; spoken = false; notebook = heard.notebook }) f
       ∙ ap (λ (b : Bool). record { holds = cond b (weigh N (told_by N s heard.notebook) (suspect N (turns / (N.n - 1))) x.holds s) x.holds; spoken = false; notebook = heard.notebook })

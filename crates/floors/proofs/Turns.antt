@@ -9,7 +9,7 @@ use Rattle.plans.specs.Plans.{network}
 use Rattle.plans.proofs.Sets.{number, number_is}
 use Rattle.plans.proofs.Wholes.{plan_sites, plan_rogues}
 use Rattle.runs.specs.State.{last_turn}
-use Rattle.floors.specs.declared.site_plan.SitePlan.{SitePlan}
+use Rattle.site_plans.specs.declared.site_plan.SitePlan.{SitePlan}
 use Rattle.floors.specs.Tables.{site_network}
 
 -- so many whole phases are over exactly when all their turns are

@@ -2,8 +2,8 @@ ghost use Rattle.std.specs.Prelude.{◌≡◌, ◌<◌};
 ghost use Rattle.floors.specs.Tables.{site_network, Fits};
 
 use crate::ground::Ground;
-use crate::site_plan::SitePlan;
 use plans::Plan;
+use site_plans::SitePlan;
 use tables::{PathTable, Wiring};
 
 impl Ground {

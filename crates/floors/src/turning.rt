@@ -2,7 +2,6 @@ ghost use Rattle.std.specs.Prelude.{◌≡◌, ◌<◌, ◌≤◌, false, ◌||�
 ghost use Rattle.std.specs.List.{range_with_len};
 ghost use Rattle.sites.specs.Positions.{all_from};
 ghost use Rattle.sites.specs.Sets.{in_set};
-ghost use Rattle.theory.specs.Runs.{suspect};
 ghost use Rattle.runs.specs.Replies.{turned_site, all_spoke as all_have_spoken, turn_reply, turn_next};
 ghost use Rattle.floors.specs.Tables.{site_network};
 ghost use Rattle.floors.specs.Turns.{noted_by, weighed_by, turned_by};
@@ -12,33 +11,17 @@ use crate::floor::Floor;
 use crate::ground::Ground;
 use crate::record::{Records, SiteRecord};
 use crate::records::is_sound;
-use crate::site_plan::SitePlan;
 use airs::Air;
-use rounds::Notebook;
+use site_plans::SitePlan;
 use sites::{Refusal, SiteMask};
-use tables::{PathTable, Routing};
-
-impl Ground {
-    // The suspect set of a phase.
-    fn suspect(&self, phase: usize) -> SiteMask
-        ensures { result.bits ≡ suspect (site_network self.now.base) phase }
-    {
-        match self.base.plan.suspect(phase) {
-            Some(set) => set,
-            None => SiteMask { bits: 0 },
-        }
-    }
-}
+use tables::PathTable;
 
 impl SiteRecord {
     // Hears a round, which the first round of a phase does with an empty notebook.
     fn hear<A: Air>(&mut self, air: &A, table: &PathTable, round: usize)
         ensures { seen self.new ≡ noted_by table.now (A.lanes air.now) round (seen self.old) }
     {
-        if round == 1 {
-            self.notebook = Notebook::new();
-        }
-        self.notebook.hear_round(air, table, round);
+        self.notebook.take_round(air, table, round);
         self.spoken = false;
     }
 
@@ -59,7 +42,7 @@ impl SiteRecord {
         let table = ground.table(site);
         self.hear(air, table, round);
         if round == rounds {
-            self.weigh(&ground.base, table, ground.suspect(turns / rounds));
+            self.weigh(&ground.base, table, ground.base.suspect(turns / rounds));
         }
     }
 }

@@ -1,5 +1,5 @@
 use Rattle.std.proofs.Common.{arith}
-use Rattle.floors.proofs.Six.{base_some}
+use Rattle.site_plans.proofs.Made.{base_some}
 use Rattle.floors.proofs.floor.Floor.asks.Goals as goal
 
 pub table-requires : goal.table-requires

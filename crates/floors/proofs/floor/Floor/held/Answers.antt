@@ -1,7 +1,7 @@
 use Rattle.std.proofs.Common.{Ok, sym, arith}
 use Rattle.runs.proofs.Accepted.{for_sound_ok}
 use Rattle.floors.specs.Views.{view}
-use Rattle.floors.proofs.Six.{base_few}
+use Rattle.site_plans.proofs.Made.{base_few}
 use Rattle.floors.proofs.floor.Floor.held.Goals as goal
 
 pub bit-requires : goal.bit-requires

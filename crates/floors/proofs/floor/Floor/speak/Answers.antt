@@ -3,7 +3,7 @@ use Rattle.airs.specs.Lanes.{count_of}
 use Rattle.runs.proofs.Accepted.{for_sound_ok}
 use Rattle.rounds.specs.Speaking.{put_all_reply, put_all_next}
 use Rattle.floors.specs.Views.{record_at, owed_by, view}
-use Rattle.floors.proofs.Six.{base_few}
+use Rattle.site_plans.proofs.Made.{base_few}
 use Rattle.floors.proofs.Speaks.{spoken_answer, spoken_state}
 use Rattle.floors.proofs.floor.Floor.speak.Goals as goal
 

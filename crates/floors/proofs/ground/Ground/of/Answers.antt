@@ -1,8 +1,9 @@
 use Rattle.std.proofs.Common.{◌≡◌, ◌<◌, true, [], ◌∷◌, map, get_or, refl, arith}
 use Rattle.theory.specs.Flooding.{expected}
-use Rattle.floors.specs.declared.site_plan.SitePlan.{SitePlan}
+use Rattle.site_plans.specs.declared.site_plan.SitePlan.{SitePlan}
 use Rattle.floors.specs.Tables.{site_network, table_site, table_count, level_at, same_paths}
-use Rattle.floors.proofs.Six.{six_cases, base_few, made_count, made_level}
+use Rattle.site_plans.proofs.Made.{base_few}
+use Rattle.floors.proofs.Six.{six_cases, made_count, made_level}
 use Rattle.floors.proofs.ground.Ground.of.Goals as goal
 
 pub invariant_of-result : goal.invariant_of-result

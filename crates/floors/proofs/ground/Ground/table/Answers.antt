@@ -1,5 +1,6 @@
 use Rattle.std.proofs.Common.{◌<◌, arith}
-use Rattle.floors.proofs.Six.{base_few, table_fits}
+use Rattle.site_plans.proofs.Made.{base_few}
+use Rattle.floors.proofs.Six.{table_fits}
 use Rattle.floors.proofs.ground.Ground.table.Goals as goal
 
 pub listed : goal.listed

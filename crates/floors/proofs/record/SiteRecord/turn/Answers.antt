@@ -16,7 +16,7 @@ returns-then-round-rounds g c =
     let t = c.table-table.result.now in
     let F = c.suspect.result.bits in
     c.weigh.ensures ∙ ap (λ (x : SiteRecord). weighed_by N t F x) c.hear.ensures
-    ∙ turned_then N c.args.site t c.table-table.ensures (g.A.Air.lanes c.args.air.now) turns (seen c.args.self.now) (turns % (n - 1) + 1) F
+    ∙ turned_then N c.args.site t c.table-table.ensures c.requires (g.A.Air.lanes c.args.air.now) turns (seen c.args.self.now) (turns % (n - 1) + 1) F
     (ap (λ (k : ℕ). turns % (k - 1) + 1) e) (c.if-round-rounds.true ∙ ap (λ (k : ℕ). k - 1) e) (c.suspect.ensures ∙ ap (λ (k : ℕ). suspect N (turns / (k - 1))) e)
 
 pub returns-else-round-rounds : goal.returns-else-round-rounds
@@ -26,5 +26,5 @@ returns-else-round-rounds g c =
     let e = c.site_count.ensures.value in
     let turns = c.args.turns in
     c.hear.ensures
-    ∙ turned_else N c.args.site c.table-table.result.now c.table-table.ensures (g.A.Air.lanes c.args.air.now) turns (seen c.args.self.now) (turns % (n - 1) + 1)
+    ∙ turned_else N c.args.site c.table-table.result.now c.table-table.ensures c.requires (g.A.Air.lanes c.args.air.now) turns (seen c.args.self.now) (turns % (n - 1) + 1)
     (ap (λ (k : ℕ). turns % (k - 1) + 1) e) (λ h. c.if-round-rounds.false (h ∙ ap (λ (k : ℕ). k - 1) (sym e)))
