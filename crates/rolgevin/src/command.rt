@@ -1,9 +1,10 @@
 // From a line to the command that it is, and to its answer.
 use crate::air_commands::AirCommand;
+use crate::any_air::AirKind;
 use crate::end_commands::EndCommand;
 use crate::fault::Fault;
 use crate::floor_commands::FloorCommand;
-use crate::line::{AirKind, Line};
+use crate::line::Line;
 use crate::path_commands::PathCommand;
 use crate::session::Session;
 use crate::sheet_commands::SheetCommand;

@@ -8,7 +8,6 @@ use rounds::Notebook;
 use single_end::{Round, Taken, Weighed, Weighing};
 use std::fmt;
 use std::fmt::Write;
-use std::mem::replace;
 
 /// A command on the single end.
 #[derive(Clone, Copy)]
@@ -27,9 +26,8 @@ pub(crate) enum EndCommand {
     Set { place: usize, word: u32 },
 }
 
-/// Where the end in hand stands, with the state that its next call moves.
-pub(crate) enum Stage {
-    NotBegun,
+/// Where an end stands, with the state that its next call moves.
+enum Stage {
     InRound(Round),
     InWeighing(Weighing),
     Finished(bool),
@@ -45,7 +43,7 @@ impl Stage {
             Stage::InWeighing(weighing) => {
                 let _ = weighing.give_up();
             }
-            Stage::NotBegun | Stage::Finished(_) => {}
+            Stage::Finished(_) => {}
         }
     }
 }
@@ -71,7 +69,6 @@ impl From<Weighed> for Stage {
 impl fmt::Display for Stage {
     fn fmt<W: fmt::Write>(&self, f: &mut fmt::Formatter<W>) -> fmt::Result {
         match self {
-            Stage::NotBegun => write!(f, "not begun"),
             Stage::InRound(state) => {
                 let (phase, round) = (state.phase(), state.round());
                 write!(f, "round {phase} {round}  # phase {phase}, round {round}")
@@ -91,16 +88,18 @@ impl fmt::Display for Stage {
     }
 }
 
-/// The end in hand and its notebook.
+/// The end in hand, if one is begun, and its notebook.
 pub(crate) struct End {
-    stage: Stage,
+    stage: Option<Stage>,
     notebook: Notebook,
 }
 
 impl Drop for End {
     fn drop(self) {
         let End { stage, notebook: _ } = self;
-        stage.give_up();
+        if let Some(stage) = stage {
+            stage.give_up();
+        }
     }
 }
 
@@ -108,26 +107,34 @@ impl End {
     /// No end, and an empty notebook.
     pub(crate) fn new() -> End {
         End {
-            stage: Stage::NotBegun,
+            stage: None,
             notebook: Notebook::new(),
         }
     }
 
     // Puts a stage in place of the one before.
     fn enter(&mut self, stage: Stage) {
-        replace(&mut self.stage, stage).give_up();
+        if let Some(before) = self.stage.replace(stage) {
+            before.give_up();
+        }
     }
 
     // Goes on to a stage and writes where the end then stands.
     fn go_on(&mut self, stage: Stage, reply: &mut String) -> Result<(), Fault> {
+        let written = write!(reply, "ok {stage}");
         self.enter(stage);
-        write!(reply, "ok {}", self.stage)?;
-        Ok(())
+        Ok(written?)
+    }
+
+    // Stays in a stage where a call failed.
+    fn stay(&mut self, stage: Stage, fault: Fault) -> Result<(), Fault> {
+        self.enter(stage);
+        Err(fault)
     }
 
     // The end has put all that it owes in this round.
     fn speak<A: Air>(&self, plan: &Plan, air: &mut A, reply: &mut String) -> Result<(), Fault> {
-        let Stage::InRound(round) = &self.stage else {
+        let Some(Stage::InRound(round)) = &self.stage else {
             return Err(Fault::NoFit);
         };
         let count = round.speak(plan, air, &self.notebook)?;
@@ -137,35 +144,27 @@ impl End {
 
     // The end hears its neighbours.
     fn take<A: Air>(&mut self, plan: &Plan, air: &A, reply: &mut String) -> Result<(), Fault> {
-        match replace(&mut self.stage, Stage::NotBegun) {
-            Stage::InRound(round) => match round.take(plan, air, &mut self.notebook) {
+        match self.stage.take() {
+            Some(Stage::InRound(round)) => match round.take(plan, air, &mut self.notebook) {
                 Ok(taken) => self.go_on(Stage::from(taken), reply),
-                Err((refusal, round)) => {
-                    self.enter(Stage::InRound(round));
-                    Err(Fault::Refused(refusal))
-                }
+                Err((refusal, round)) => self.stay(Stage::InRound(round), Fault::from(refusal)),
             },
-            other => {
-                self.enter(other);
-                Err(Fault::NoFit)
-            }
+            Some(stage) => self.stay(stage, Fault::NoFit),
+            None => Err(Fault::NoFit),
         }
     }
 
     // The end weighs.
     fn weigh(&mut self, plan: &Plan, reply: &mut String) -> Result<(), Fault> {
-        match replace(&mut self.stage, Stage::NotBegun) {
-            Stage::InWeighing(weighing) => match weighing.weigh(plan, &self.notebook) {
+        match self.stage.take() {
+            Some(Stage::InWeighing(weighing)) => match weighing.weigh(plan, &self.notebook) {
                 Ok(weighed) => self.go_on(Stage::from(weighed), reply),
                 Err((refusal, weighing)) => {
-                    self.enter(Stage::InWeighing(weighing));
-                    Err(Fault::Refused(refusal))
+                    self.stay(Stage::InWeighing(weighing), Fault::from(refusal))
                 }
             },
-            other => {
-                self.enter(other);
-                Err(Fault::NoFit)
-            }
+            Some(stage) => self.stay(stage, Fault::NoFit),
+            None => Err(Fault::NoFit),
         }
     }
 

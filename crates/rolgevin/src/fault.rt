@@ -1,5 +1,4 @@
 // Why a line gets another answer than `ok`.
-use crate::text::meaning;
 use sheets::SheetRefusal;
 use sites::Refusal;
 use std::alloc::{AllocError, AllocFailed};
@@ -51,11 +50,10 @@ struct Placed(SheetRefusal);
 impl fmt::Display for Placed {
     fn fmt<W: fmt::Write>(&self, f: &mut fmt::Formatter<W>) -> fmt::Result {
         let SheetRefusal { refusal, place } = self.0;
-        let meaning = meaning(refusal);
         match refusal {
-            Refusal::SheetSize => write!(f, "{meaning}"),
-            Refusal::NoRoute | Refusal::NoFan => write!(f, "{meaning}, mask {place:X}"),
-            _ => write!(f, "word {place}: {meaning}"),
+            Refusal::SheetSize => write!(f, "{refusal}"),
+            Refusal::NoRoute | Refusal::NoFan => write!(f, "{refusal}, mask {place:X}"),
+            _ => write!(f, "word {place}: {refusal}"),
         }
     }
 }
@@ -65,9 +63,7 @@ impl fmt::Display for Fault {
         match *self {
             Fault::NoCommand(why) => write!(f, "error  # {why}"),
             Fault::NoFit => write!(f, "state  # the call does not fit the end's state"),
-            Fault::Refused(refusal) => {
-                write!(f, "refused {}  # {}", refusal.number(), meaning(refusal))
-            }
+            Fault::Refused(refusal) => write!(f, "refused {}  # {refusal}", refusal.number()),
             Fault::SheetRefused(fault) => write!(
                 f,
                 "refused {} {}  # {}",

@@ -65,11 +65,12 @@ fn counted(call: Call) -> &'static str {
     }
 }
 
-// Performs one call, as a list of one, and writes what it answered.
+// Performs one call and writes what it answered. It goes as a list of one through the call that bears the guarantee.
 fn perform_call<A: Air>(call: Call, floor: &mut Floor<A>, reply: &mut String) -> Result<(), Fault> {
     let mut answers = [Answer::Count(0)];
     floor.perform(&[call], &mut answers);
-    match answers[0] {
+    let [answer] = answers;
+    match answer {
         Answer::Count(count) => write!(reply, "ok {count}  # {}", counted(call))?,
         Answer::Bit(bit) => write!(reply, "ok {}  # {}", u8::from(bit), Bid(bit))?,
         Answer::Refused(refusal) => return Err(Fault::Refused(refusal)),

@@ -79,23 +79,6 @@ impl Argument for Site {
     }
 }
 
-/// The two kinds of air.
-#[derive(Clone, Copy)]
-pub(crate) enum AirKind {
-    Board,
-    Strip,
-}
-
-impl Argument for AirKind {
-    fn read(token: &str) -> Option<AirKind> {
-        match token {
-            "board" => Some(AirKind::Board),
-            "strip" => Some(AirKind::Strip),
-            _ => None,
-        }
-    }
-}
-
 /// A command's name, and the tokens behind it.
 #[derive(Clone, Copy)]
 pub(crate) struct Line<'a> {

@@ -2,6 +2,7 @@
 #![tactic(auto)]
 
 mod air_commands;
+mod any_air;
 mod command;
 mod end_commands;
 mod fault;

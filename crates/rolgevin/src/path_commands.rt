@@ -1,6 +1,6 @@
 // Path words: what they say, and how they are written.
 use crate::fault::Fault;
-use crate::line::Line;
+use crate::line::{Argument, Line};
 use crate::text::Dashed;
 use sites::Refusal;
 use std::alloc::Global;
@@ -75,10 +75,12 @@ impl PathCommand {
 
     // `read` with its word.
     fn one_word(line: Line<'_>) -> Result<PathCommand, Fault> {
-        if line.tokens.len() != 1 {
+        let [token] = line.tokens else {
             return Err(Fault::NoCommand("read takes one word"));
-        }
-        let word = line.one("a word is up to eight hexadecimal digits")?;
+        };
+        let word = u32::read(token).ok_or(Fault::NoCommand(
+            "a word is up to eight hexadecimal digits",
+        ))?;
         Ok(PathCommand::Read(word))
     }
 

@@ -1,83 +1,10 @@
 // What the console has in hand.
-use crate::air_commands::AirCommand;
+use crate::any_air::{AirKind, AnyAir, AnyFloor};
 use crate::command::Command;
-use crate::end_commands::{End, EndCommand};
+use crate::end_commands::End;
 use crate::fault::Fault;
-use crate::floor_commands::FloorCommand;
-use crate::line::AirKind;
-use airs::{Board, Strip};
-use floors::Floor;
 use plans::Plan;
 use std::fmt::Write;
-
-/// An air of one kind or the other.
-#[derive(Drop)]
-pub(crate) enum AnyAir {
-    Board(Board),
-    Strip(Strip),
-}
-
-impl AnyAir {
-    // An empty air of a kind.
-    fn new(kind: AirKind) -> AnyAir {
-        match kind {
-            AirKind::Board => AnyAir::Board(Board::new()),
-            AirKind::Strip => AnyAir::Strip(Strip::new()),
-        }
-    }
-
-    // Performs a command on the air.
-    fn perform(&mut self, command: AirCommand, reply: &mut String) -> Result<(), Fault> {
-        match self {
-            AnyAir::Board(board) => command.perform(board, reply),
-            AnyAir::Strip(strip) => command.perform(strip, reply),
-        }
-    }
-
-    // Performs a command on an end over the air.
-    fn perform_end(
-        &mut self,
-        command: EndCommand,
-        plan: &Plan,
-        end: &mut End,
-        reply: &mut String,
-    ) -> Result<(), Fault> {
-        match self {
-            AnyAir::Board(board) => command.perform(plan, board, end, reply),
-            AnyAir::Strip(strip) => command.perform(plan, strip, end, reply),
-        }
-    }
-}
-
-/// A floor over an air of one kind or the other.
-#[derive(Drop)]
-pub(crate) enum AnyFloor {
-    Board(Floor<Board>),
-    Strip(Floor<Strip>),
-}
-
-impl AnyFloor {
-    // A new floor over an empty air of a kind.
-    fn new(kind: AirKind) -> AnyFloor {
-        match kind {
-            AirKind::Board => AnyFloor::Board(Floor::new(Board::new())),
-            AirKind::Strip => AnyFloor::Strip(Floor::new(Strip::new())),
-        }
-    }
-
-    // Performs a command on the floor.
-    fn perform(
-        &mut self,
-        command: FloorCommand,
-        plan: &Plan,
-        reply: &mut String,
-    ) -> Result<(), Fault> {
-        match self {
-            AnyFloor::Board(floor) => command.perform(plan, floor, reply),
-            AnyFloor::Strip(floor) => command.perform(plan, floor, reply),
-        }
-    }
-}
 
 /// A plan, a floor, an air of the console's own, and a single end.
 #[derive(Drop)]

@@ -109,7 +109,7 @@ fn route(set: SiteMask, from: u8, to: u8, plan: &Plan, reply: &mut String) -> Re
     Ok(())
 }
 
-// The paths of a fan, a space before each.
+// The paths of a fan in the plan in hand, a space before each. All words of a plan's fans are lawful.
 #[derive(Clone, Copy)]
 struct Paths<'a>(&'a [u32]);
 
