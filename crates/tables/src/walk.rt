@@ -21,8 +21,10 @@ impl<'a> Home<'a> {
                 front: 0x1000_0000,
                 last: 0,
             },
-            near: 63,
-            free: (1 << self.wiring.n) - 1 - (1 << self.site),
+            near: SiteMask { bits: 63 },
+            free: SiteMask {
+                bits: (1 << self.wiring.n) - 1 - (1 << self.site),
+            },
             unit: 0x40_0000,
         }
     }
@@ -33,12 +35,12 @@ impl Step {
     fn can(&self, site: u8) -> bool
         ensures { result ≡ can_go self.now site }
     {
-        SiteMask { bits: self.near }.contains(site) && SiteMask { bits: self.free }.contains(site)
+        self.near.contains(site) && self.free.contains(site)
     }
 
     // The path with one more site.
     fn on(&self, wiring: &Wiring, site: u8) -> Step
-        requires { (site < 6) × ((2 ^ site ≤ self.now.free) × (self.now.path.word + 2 ^ 25 + 8 * self.now.unit < 2 ^ 32)) }
+        requires { (site < 6) × ((2 ^ site ≤ self.now.free.bits) × (self.now.path.word + 2 ^ 25 + 8 * self.now.unit < 2 ^ 32)) }
         ensures { result ≡ gone_on wiring.now.near self.now site }
     {
         let word = self.path.word + 0x200_0000 + site as u32 * self.unit;
@@ -48,8 +50,12 @@ impl Step {
                 front: self.path.word,
                 last: site,
             },
-            near: wiring.near[site as usize],
-            free: self.free - (1 << site),
+            near: SiteMask {
+                bits: wiring.near[site as usize],
+            },
+            free: SiteMask {
+                bits: self.free.bits - (1 << site),
+            },
             unit: self.unit / 8,
         }
     }
@@ -74,7 +80,7 @@ impl Draft {
         ensures ends { self.new.ends ≡ self.old.ends }
     {
         if left == 0 {
-            if (SiteMask { bits: step.near }).contains(home.site) {
+            if step.near.contains(home.site) {
                 self.paths.push(step.path);
             }
             return;

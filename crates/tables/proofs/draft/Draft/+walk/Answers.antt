@@ -18,7 +18,7 @@ on-requires t c =
     let h : can_go c.args.step c.loop-s.s ≡ true = sym c.if-can.ensures in (
       omega arith,
       (
-        in_set_least c.args.step.free c.loop-s.s (and_parts (in_set c.args.step.near c.loop-s.s) (in_set c.args.step.free c.loop-s.s) h).1,
+        in_set_least c.args.step.free.bits c.loop-s.s (and_parts (in_set c.args.step.near.bits c.loop-s.s) (in_set c.args.step.free.bits c.loop-s.s) h).1,
         omega arith,
       ),
     )
