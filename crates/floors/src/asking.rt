@@ -1,7 +1,7 @@
 ghost use Rattle.std.specs.Prelude.{◌≡◌, ◌-◌, ◌<◌, ◌≤◌, Ok, OnOk};
 ghost use Rattle.runs.specs.State.{over, phase, round};
 ghost use Rattle.runs.specs.Replies.{for_sound, held_reply, decision_reply};
-ghost use Rattle.floors.specs.Views.{view, plan_sheet};
+ghost use Rattle.floors.specs.Views.{view};
 
 use crate::floor::Floor;
 use airs::Air;

@@ -1,4 +1,4 @@
-ghost use Rattle.std.specs.Prelude.{◌≡◌, ◌≤◌, min, ◌++◌, length, take, drop};
+ghost use Rattle.std.specs.Prelude.{◌≡◌, min, ◌++◌, length, take, drop};
 ghost use Rattle.runs.specs.Runs.{after as left_by, answers as answers_to};
 ghost use Rattle.plans.specs.Plans.{network};
 ghost use Rattle.floors.specs.Lists.{Performed, OpensAndRuns};

@@ -1,4 +1,4 @@
-ghost use Rattle.std.specs.Prelude.{◌≡◌, ◌<◌, false, ◌&&◌, map};
+ghost use Rattle.std.specs.Prelude.{◌≡◌, ◌<◌, ◌&&◌, map};
 ghost use Rattle.std.specs.List.{range_with_len};
 ghost use Rattle.sites.specs.Sets.{in_set};
 ghost use Rattle.floors.specs.Views.{seen, record_at, fresh, sound_of};

@@ -1,5 +1,5 @@
-ghost use Rattle.std.specs.Prelude.{◌≡◌, ◌<◌, ◌≤◌, map, slice_set};
-ghost use Rattle.airs.specs.Lanes.{Lanes, kept};
+ghost use Rattle.std.specs.Prelude.{◌≡◌, ◌<◌, map, slice_set};
+ghost use Rattle.airs.specs.Lanes.{kept};
 ghost use Rattle.runs.specs.Replies.{as_spoken, speak_reply, speak_next};
 ghost use Rattle.rounds.specs.Speaking.{put_all_reply, put_all_next};
 ghost use Rattle.floors.specs.Views.{seen, record_at, owed_by, view, plan_sheet};

@@ -1,8 +1,8 @@
-ghost use Rattle.std.specs.Prelude.{◌≡◌, ◌<◌, ◌≤◌, false, cond, ◌||◌, map};
+ghost use Rattle.std.specs.Prelude.{◌≡◌, ◌≤◌, cond, ◌||◌, map};
 ghost use Rattle.std.specs.List.{range_with_len};
 ghost use Rattle.sites.specs.Positions.{all_from};
 ghost use Rattle.sites.specs.Sets.{in_set};
-ghost use Rattle.runs.specs.Replies.{turned_site, all_spoke as all_have_spoken, turn_reply, turn_next};
+ghost use Rattle.runs.specs.Replies.{turned_site, turn_reply, turn_next};
 ghost use Rattle.floors.specs.Tables.{site_network};
 ghost use Rattle.floors.specs.Turns.{noted_by, weighed_by, turned_by};
 ghost use Rattle.floors.specs.Views.{seen, record_at, sound_of, state_of, view, plan_sheet};

@@ -1,4 +1,4 @@
-ghost use Rattle.std.specs.Prelude.{◌≡◌, ◌≤◌};
+ghost use Rattle.std.specs.Prelude.{◌≡◌};
 ghost use Rattle.theory.specs.Runs.{phases as phases_of, suspect as suspect_of};
 ghost use Rattle.site_plans.specs.Tables.{site_network, Fits};
 
