@@ -1,5 +1,4 @@
 pub mod Puts
-pub mod Six
+pub mod SixLanes
 pub mod Runs
 pub mod Strips
-pub mod Reading

@@ -17,6 +17,13 @@ module _ (size : ℕ) (ls : Lanes) (s : ℕ) where
   pub accepted : s < 6 → count_of ls s < size → put_reply size ls s ≡ Ok (count_of ls s + 1)
   accepted h k = rw (lt-leb 6 s h, lt-leb size (count_of ls s) k)
 
+  pub accepts : (k : ℕ) → put_reply size ls s ≡ Ok k → Accepts size ls s
+  accepts k e =
+      ⊎_elim
+      (λ (h : s < 6). ⊎_elim (λ (l : count_of ls s < size). (h, l)) (λ (l : size ≤ count_of ls s). let no = full h l in absurd cc) (cases_lt (count_of ls s) size))
+      (λ (h : 6 ≤ s). let no = no_site h in absurd cc)
+      (cases_lt s 6)
+
   pub put_kept : (w : ℕ) (e : Refusal) → put_reply size ls s ≡ Err e → put_next size ls s w ≡ ls
   put_kept w e q = ap (λ (r : Result ℕ Refusal). kept r (added ls s (w ∷ [])) ls) q
 

@@ -5,6 +5,7 @@ mod board;
 mod board_air;
 mod entry;
 mod laws;
+mod six_lanes;
 mod strip;
 mod strip_air;
 

@@ -3,18 +3,10 @@
 
 #[cfg(test)]
 mod tests {
-    use airs::{Air, Board, Strip, is_lane};
+    use airs::{Air, Board, Entry, Strip, is_lane};
     use sites::Refusal;
     use std::process::Abort;
     use std::test::Fail;
-
-    // An answer as one number: a length, or 1,000 more than the refusal's number.
-    fn answered(answer: Result<usize, Refusal>) -> usize {
-        match answer {
-            Ok(length) => length,
-            Err(refusal) => 1000 + refusal.number() as usize,
-        }
-    }
 
     // The word that the tests put at a position of a site's lane.
     fn word_for(site: u8, position: usize) -> u32 {
@@ -24,7 +16,7 @@ mod tests {
     // Puts words into a lane until it has some count, and tests each answer.
     fn fill<A: Air>(rt: &impl Abort, air: &mut A, site: u8, count: usize) {
         for k in 0..count {
-            assert_eq!(rt; answered(air.put(site, word_for(site, k))), k + 1);
+            assert_eq!(rt; air.put(site, word_for(site, k)), Ok(k + 1));
         }
     }
 
@@ -46,12 +38,12 @@ mod tests {
         for other in 0..6 {
             holds(rt, air, other, if other == site { count } else { 0 })?;
         }
-        let next = answered(air.put(site, 0xFFFF_FFFF));
+        let next = air.put(site, 0xFFFF_FFFF);
         if count < air.lane_size() {
-            assert_eq!(rt; next, count + 1);
+            assert_eq!(rt; next, Ok(count + 1));
             Ok(())
         } else {
-            assert_eq!(rt; next, 1025);
+            assert_eq!(rt; next, Err(Refusal::LaneFull));
             holds(rt, air, site, count)
         }
     }
@@ -63,11 +55,11 @@ mod tests {
             fill(rt, air, site, size);
         }
         for site in 0..6 {
-            assert_eq!(rt; answered(air.put(site, 1)), 1025);
+            assert_eq!(rt; air.put(site, 1), Err(Refusal::LaneFull));
             holds(rt, air, site, size)?;
         }
         for site in [6, 7, 255] {
-            assert_eq!(rt; answered(air.put(site, 1)), 1021);
+            assert_eq!(rt; air.put(site, 1), Err(Refusal::NoSite));
             holds(rt, air, site, 0)?;
         }
         air.clear();
@@ -83,7 +75,7 @@ mod tests {
             for site in 0..8 {
                 if k < 115 + site as usize {
                     let word = word_for(site, k);
-                    assert_eq!(rt; answered(a.put(site, word)), answered(b.put(site, word)));
+                    assert_eq!(rt; a.put(site, word), b.put(site, word));
                 }
             }
         }
@@ -136,12 +128,14 @@ mod tests {
         for (site, word) in puts {
             let _ = strip.put(site, word);
         }
-        let pairs = strip.pairs();
-        assert!(rt; pairs.len() == 4);
-        assert_eq!(rt; pairs[0].site_word, 0xC000_0005);
-        assert_eq!(rt; pairs[1].site_word, 0xC000_0000);
-        assert_eq!(rt; pairs[2].word, 0xFFFF_FFFF);
-        assert_eq!(rt; pairs[3].site_word, 0xC000_0002);
+        let pair = |site_word, word| Entry { site_word, word };
+        let pairs = [
+            pair(0xC000_0005, 0x1000_0001),
+            pair(0xC000_0000, 7),
+            pair(0xC000_0005, 0xFFFF_FFFF),
+            pair(0xC000_0002, 0),
+        ];
+        assert_eq!(rt; strip.pairs(), pairs.as_slice());
     }
 
     #[test]

@@ -1,5 +1,3 @@
-pub mod FanWords
-pub mod Fitted
 pub mod Six
 pub mod Seen
 pub mod Turns
@@ -7,3 +5,4 @@ pub mod Speaks
 pub mod Turned
 pub mod Recalls
 pub mod Performs
+pub mod Ranges

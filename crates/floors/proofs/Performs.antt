@@ -3,9 +3,8 @@ use Rattle.std.proofs.Common.{◌≡◌, ℕ, suc, ◌+◌, ◌<◌, ◌≤◌, 
 use Rattle.std.proofs.lemmas.List.{take_more, drop_more, length-take-le, set_at}
 use Rattle.theory.specs.Network.{Lawful}
 use Rattle.runs.specs.declared.calls.Call.{Call}
-use Rattle.runs.specs.declared.calls.Answer.{Answer}
 use Rattle.runs.specs.State.{State}
-use Rattle.runs.specs.Runs.{reply, next, Entry, Ran, none, more, after, answers, entries}
+use Rattle.runs.specs.Runs.{Answer, reply, next, Entry, Ran, none, more, after, answers, entries}
 use Rattle.runs.proofs.Guarantee.{guarantee_law}
 use Rattle.runs.proofs.Runs.{runs_so}
 use Rattle.floors.specs.Lists.{Performed}

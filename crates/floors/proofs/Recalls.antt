@@ -11,7 +11,7 @@ use Rattle.runs.specs.Replies.{or_unheard, recalled_for, recalled_as}
 use Rattle.runs.proofs.Accepted.{for_sound_is}
 use Rattle.rounds.specs.Recalling.{asked, recall_of, or_unheard as or_refused}
 use Rattle.floors.specs.Tables.{Fits}
-use Rattle.floors.proofs.Fitted.{noted_fits}
+use Rattle.site_plans.proofs.Fitted.{noted_fits}
 
 same_refusal : (o : Option Bool) → or_refused o ≡ or_unheard o
 same_refusal (Some b) = refl
@@ -25,7 +25,7 @@ module _ (st : State) (s : ℕ) (t : PathTable) (fits : Fits st.net s t) (sound 
   by_bit true p = refl
   by_bit false p =
       same_refusal (noted (table_network t) t.site rounds (site st s).notebook p)
-      ∙ ap or_unheard (noted_fits st.net s t fits rounds (site st s).notebook p)
+      ∙ ap or_unheard (noted_fits st.net s t fits sound.0 rounds (site st s).notebook p)
       ∙ sym (for_sound_is st s (or_unheard (noted st.net s rounds (site st s).notebook p)) sound)
 
   pub recalled_is : (o : Option Word) → recall_of (table_network t) t.site rounds (site st s).notebook (asked o) ≡ recalled_as st s o

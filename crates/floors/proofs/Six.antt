@@ -1,29 +1,18 @@
 -- Six tables, one a site, and lists of paths.
-use Rattle.std.proofs.Common.{◌≡◌, ℕ, zero, suc, ◌<◌, ◌≤◌, true, List, [], ◌∷◌, map, length, get_or, sym, refl, ap, ◌∙◌, arith}
+use Rattle.std.proofs.Common.{◌≡◌, ℕ, ◌<◌, true, List, [], ◌∷◌, map, length, get_or, sym, refl, ap, ◌∙◌, arith}
 use Rattle.std.proofs.lemmas.List.{get_or-map}
 use Rattle.std.proofs.lemmas.Bool.{and_parts, and_from}
 use Rattle.sites.specs.Lists.{same_path}
 use Rattle.sites.proofs.Lists.{same_path_refl, same_path_true}
 use Rattle.theory.specs.Network.{Network}
 use Rattle.theory.specs.Flooding.{expected}
-use Rattle.plans.specs.Plans.{network}
-use Rattle.plans.proofs.Wholes.{plan_sites}
 use Rattle.tables.specs.Tables.{network_of}
 use Rattle.tables.specs.Wirings.{SameEdges}
 use Rattle.tables.specs.declared.table.PathTable.{PathTable}
 use Rattle.tables.specs.declared.wiring.Wiring.{Wiring}
-use Rattle.floors.specs.declared.site_plan.SitePlan.{SitePlan}
+use Rattle.site_plans.specs.declared.site_plan.SitePlan.{SitePlan}
 use Rattle.tables.proofs.Edges.{edges_law}
 use Rattle.floors.specs.Tables.{site_network, table_site, table_count, level_at, same_paths, Fits}
-
-pub six_cases : (P : ℕ → Type 0) → P 0 → P 1 → P 2 → P 3 → P 4 → P 5 → (s : ℕ) → s < 6 → P s
-six_cases P a b c d e f zero l = a
-six_cases P a b c d e f (suc zero) l = b
-six_cases P a b c d e f (suc (suc zero)) l = c
-six_cases P a b c d e f (suc (suc (suc zero))) l = d
-six_cases P a b c d e f (suc (suc (suc (suc zero)))) l = e
-six_cases P a b c d e f (suc (suc (suc (suc (suc zero))))) l = f
-six_cases P a b c d e f (suc (suc (suc (suc (suc (suc s)))))) l = absurd (omega arith)
 
 pub same_paths_refl : (ps : List (List ℕ)) → same_paths ps ps ≡ true
 same_paths_refl [] = refl
@@ -38,14 +27,6 @@ same_paths_true (p ∷ ps) (q ∷ qs) e =
     let a = same_path_true p q h.0 in
     let b = same_paths_true ps qs h.1 in cc
 
-pub base_few : (p : SitePlan) → (site_network p).n ≤ 6
-unfolding network
-base_few p = (plan_sites p.plan).1
-
-pub base_some : (p : SitePlan) → 2 ≤ (site_network p).n
-unfolding network
-base_some p = (plan_sites p.plan).0
-
 pub table_fits : (p : SitePlan) (ts : List PathTable) (s : ℕ) (d : PathTable) → length ts ≡ 6 → s < (site_network p).n → s < 6 → get_or (map table_site ts) s 0 ≡ s →
     get_or (map table_count ts) s 0 ≡ (site_network p).n → ((k : ℕ) → same_paths (get_or (map (level_at k) ts) s []) (expected (site_network p) s k) ≡ true) →
     Fits (site_network p) s (get_or ts s d)
@@ -54,7 +35,8 @@ table_fits p ts s d six below lt placed counted listed =
     record {
       site = sym (get_or-map table_site ts s d 0 l) ∙ placed;
       count = sym (get_or-map table_count ts s d 0 l) ∙ counted;
-      levels = λ k. sym (get_or-map (level_at k) ts s d [] l) ∙ same_paths_true _ _ (listed k);
+      levels = λ b k. sym (get_or-map (level_at k) ts s d [] l) ∙ same_paths_true _ _ (listed k);
+      none = λ b k. absurd (omega arith);
     }
 
 -- a table made from a wiring with the network's sites and edges

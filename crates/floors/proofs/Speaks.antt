@@ -14,7 +14,7 @@ use Rattle.runs.proofs.Accepted.{for_sound_is}
 use Rattle.rounds.specs.Speaking.{put_all_reply, put_all_next}
 use Rattle.floors.specs.Tables.{Fits}
 use Rattle.floors.specs.Views.{owed_by}
-use Rattle.floors.proofs.Fitted.{owed_fits}
+use Rattle.site_plans.proofs.Fitted.{owed_words_fit}
 
 pub set_kept : {X : Type 0} (r : Result ℕ Refusal) (xs : List X) (s : ℕ) (y d : X) → set xs s (kept r y (get_or xs s d)) ≡ kept r (set xs s y) xs
 set_kept (Ok k) xs s y d = refl
@@ -40,7 +40,7 @@ module _ (size : ℕ) (st : State) (s : ℕ) (t : PathTable) (R : Result ℕ Ref
     (not-over : over st ≡ false) (silent : (site st s).spoken ≡ false) (within : count_of st.lanes s ≤ size) (fits : Fits st.net s t)
     (is : R ≡ put_all_reply size st.lanes t.site (owed_by t (round st) (site st s))) where
   same_words : owed_by t (round st) (site st s) ≡ speech st s
-  same_words = owed_fits st.net s t fits (round st) (site st s).holds (site st s).notebook
+  same_words = owed_words_fit st.net s t fits sound.0 (round st) (site st s).holds (site st s).notebook
 
   by_network : put_all_reply size st.lanes t.site (owed_by t (round st) (site st s)) ≡ put_all_reply size st.lanes s (speech st s)
   by_network = ap (λ (v : ℕ). put_all_reply size st.lanes v (owed_by t (round st) (site st s))) fits.site ∙ ap (put_all_reply size st.lanes s) same_words

@@ -1,9 +1,8 @@
 -- What a turn does to one record, and to all.
-use Rattle.std.proofs.Common.{◌≡◌, ℕ, ◌+◌, ◌-◌, ◌/◌, ◌%◌, ◌<◌, ◌≤◌, Bool, true, false, cond, eqb, ltb, List, length, get_or, set, Some, None, sym, refl, ap, ◌∙◌, ⊎_elim, arith, eq-eqb, ne_eqb}
-use Rattle.std.proofs.lemmas.List.{get_or_past, get_or-set_same, get_or-set_other, length-set}
-use Rattle.std.proofs.lemmas.Bool.{cases_eq}
-use Rattle.std.proofs.lemmas.Bool.Decides.{nat_tests}
-use Rattle.sites.specs.Suspects.{suspects}
+use Rattle.std.proofs.Common.{◌≡◌, ℕ, ◌+◌, ◌-◌, ◌/◌, ◌%◌, ◌<◌, ◌≤◌, Bool, true, false, cond, not, eqb, ltb, List, length, get_or, set, sym, refl, ap, ◌∙◌, ⊎_elim, arith, eq-eqb, ne_eqb}
+use Rattle.std.proofs.lemmas.List.{get_or-set_same, get_or-set_other, length-set}
+use Rattle.std.proofs.lemmas.Bool.{cases_eq, ltb-true, and_parts, cond-true}
+use Rattle.sites.specs.Sets.{in_set}
 use Rattle.theory.specs.Network.{Network}
 use Rattle.theory.specs.Weighing.{weigh}
 use Rattle.theory.specs.Runs.{suspect}
@@ -15,31 +14,14 @@ use Rattle.runs.specs.State.{State, SiteRecord, blank, site, is_sound}
 use Rattle.runs.specs.Replies.{noting, weighed, turned_site}
 use Rattle.floors.specs.Tables.{Fits}
 use Rattle.floors.specs.Turns.{noting_in, noted_by, weighed_by, turned_by}
-use Rattle.floors.proofs.Fitted.{note_fits, told_fits}
-
--- ---- the suspect set of a phase
-
-some_cond : (b : Bool) (x y : ℕ) → Some x ≡ cond b (Some y) None → x ≡ y
-some_cond true x y e = cc
-some_cond false x y e = absurd (let z : ◌≡◌ {A = ℕ} 0 1 = cc in omega arith)
-
-none_cond : (b : Bool) (y : ℕ) → None ≡ cond b (Some y) None → b ≡ false
-none_cond true y e = absurd (let z : ◌≡◌ {A = ℕ} 0 1 = cc in omega arith)
-none_cond false y e = refl
-
-pub suspect_some : (N : Network) (p x : ℕ) → Some x ≡ cond (ltb p (length (suspects N.n N.f))) (Some (get_or (suspects N.n N.f) p 0)) None → x ≡ suspect N p
-unfolding suspect
-suspect_some N p x e = some_cond (ltb p (length (suspects N.n N.f))) x (get_or (suspects N.n N.f) p 0) e
-
-pub suspect_none : (N : Network) (p : ℕ) → None ≡ cond (ltb p (length (suspects N.n N.f))) (Some (get_or (suspects N.n N.f) p 0)) None → 0 ≡ suspect N p
-unfolding suspect
-suspect_none N p e =
-    let past : length (suspects N.n N.f) ≤ p = let b = none_cond (ltb p (length (suspects N.n N.f))) _ e in grind (arith, nat_tests) in
-    sym (get_or_past (suspects N.n N.f) p 0 past)
+use Rattle.site_plans.proofs.Fitted.{note_fits, told_fits}
 
 -- ---- one record
 
-module _ (N : Network) (s : ℕ) (t : PathTable) (fits : Fits N s t) (ls : Lanes) (turns : ℕ) (x : SiteRecord) where
+module _ (N : Network) (s : ℕ) (t : PathTable) (fits : Fits N s t) (rogues : ℕ) (sound : is_sound N rogues s ≡ true) (ls : Lanes) (turns : ℕ) (x : SiteRecord) where
+  below : s < N.n
+  below = ltb-true s N.n (and_parts (ltb s N.n) (not (in_set rogues s)) sound).0
+
   abbrev r0 : ℕ
   r0 = turns % (N.n - 1) + 1
 
@@ -49,32 +31,30 @@ module _ (N : Network) (s : ℕ) (t : PathTable) (fits : Fits N s t) (ls : Lanes
   heard_is : (r : ℕ) → r ≡ r0 → noted_by t ls r x ≡ heard
   heard_is r e =
       ap (λ (k : ℕ). noted_by t ls k x) e
-      ∙ ap (λ (b : List ℕ). record { holds = x.holds; spoken = false; notebook = b }) (note_fits N s t fits r0 (heard_in (lane ls)) (cond (eqb r0 1) empty_book x.notebook))
+      ∙ ap (λ (b : List ℕ). record { holds = x.holds; spoken = false; notebook = b }) (note_fits N s t fits below r0 (heard_in (lane ls)) (cond (eqb r0 1) empty_book x.notebook))
 
-  pub turned_else : (r : ℕ) → r ≡ r0 → (r ≡ N.n - 1 → ⊥) → noted_by t ls r x ≡ turned_by N ls turns s x
+  pub turned_else : (r : ℕ) → r ≡ r0 → (r ≡ N.n - 1 → ⊥) → noted_by t ls r x ≡ cond (is_sound N rogues s) (turned_by N ls turns s x) x
   turned_else r e h =
       heard_is r e
       ∙ ap (λ (b : Bool). record { holds = cond b (weigh N (told_by N s heard.notebook) (suspect N (turns / (N.n - 1))) x.holds s) x.holds; spoken = false; notebook = heard.notebook })
       (sym (ne_eqb r0 (N.n - 1) (λ k. h (e ∙ k))))
+      ∙ sym (cond-true (is_sound N rogues s) (turned_by N ls turns s x) x sound)
 
-  pub turned_then : (r F : ℕ) → r ≡ r0 → r ≡ N.n - 1 → F ≡ suspect N (turns / (N.n - 1)) → weighed_by N t F (noted_by t ls r x) ≡ turned_by N ls turns s x
+  pub turned_then : (r F : ℕ) → r ≡ r0 → r ≡ N.n - 1 → F ≡ suspect N (turns / (N.n - 1)) → weighed_by N t F (noted_by t ls r x) ≡ cond (is_sound N rogues s) (turned_by N ls turns s x) x
   turned_then r F e h f =
       ap (weighed_by N t F) (heard_is r e)
-      ∙ ap (λ (hear : List ℕ → Bool). record { holds = weigh N hear F x.holds t.site; spoken = false; notebook = heard.notebook }) (told_fits N s t fits heard.notebook)
+      ∙ ap (λ (hear : List ℕ → Bool). record { holds = weigh N hear F x.holds t.site; spoken = false; notebook = heard.notebook }) (told_fits N s t fits below heard.notebook)
       ∙ ap (λ (v : ℕ). record { holds = weigh N (told_by N s heard.notebook) F x.holds v; spoken = false; notebook = heard.notebook }) fits.site
       ∙ ap (λ (k : ℕ). record { holds = weigh N (told_by N s heard.notebook) k x.holds s; spoken = false; notebook = heard.notebook }) f
       ∙ ap (λ (b : Bool). record { holds = cond b (weigh N (told_by N s heard.notebook) (suspect N (turns / (N.n - 1))) x.holds s) x.holds; spoken = false; notebook = heard.notebook })
       (sym (eq-eqb r0 (N.n - 1) (sym e ∙ h)))
+      ∙ sym (cond-true (is_sound N rogues s) (turned_by N ls turns s x) x sound)
 
 -- ---- all records
 
-module _ (st : State) where
-  pub turned_sound : (v : ℕ) → is_sound st.net st.rogues v ≡ true → turned_by st.net st.lanes st.turns v (site st v) ≡ turned_site st v
-  unfolding noting weighed
-  turned_sound v e = sym (ap (λ (b : Bool). cond b (record { holds = weighed st v; spoken = false; notebook = noting st v }) (site st v)) e)
-
-  pub turned_other : (v : ℕ) → is_sound st.net st.rogues v ≡ false → site st v ≡ turned_site st v
-  turned_other v e = sym (ap (λ (b : Bool). cond b (record { holds = weighed st v; spoken = false; notebook = noting st v }) (site st v)) e)
+pub turned_each : (st : State) (v : ℕ) → cond (is_sound st.net st.rogues v) (turned_by st.net st.lanes st.turns v (site st v)) (site st v) ≡ turned_site st v
+unfolding noting weighed
+turned_each st v = refl
 
 -- the records of the first i sites are done, the others are as they were
 pub record Done (F : ℕ → SiteRecord) (old : List SiteRecord) (i : ℕ) (xs : List SiteRecord) : Type 0 where
@@ -91,16 +71,3 @@ done_set F old xs i y l d e = record {
       (cases_eq k i);
   still = λ k h. get_or-set_other xs i k y blank (λ q. omega arith) ∙ d.still k (omega arith);
 }
-
-pub done_same : (F : ℕ → SiteRecord) (old xs : List SiteRecord) (i : ℕ) → Done F old i xs → get_or old i blank ≡ F i → Done F old (i + 1) xs
-done_same F old xs i d e = record {
-  six = d.six;
-  done = λ k h. ⊎_elim
-      (λ (q : k ≡ i). ap (λ (j : ℕ). get_or xs j blank) q ∙ d.still i (omega arith) ∙ e ∙ ap F (sym q))
-      (λ q. d.done k (omega arith))
-      (cases_eq k i);
-  still = λ k h. d.still k (omega arith);
-}
-
-pub done_none : (F : ℕ → SiteRecord) (old : List SiteRecord) → length old ≡ 6 → Done F old 0 old
-done_none F old e = record { six = e; done = λ k h. absurd (omega arith); still = λ k h. refl }

@@ -6,10 +6,10 @@ use Rattle.sites.specs.Positions.{all_from}
 use Rattle.sites.specs.Suspects.{suspects}
 use Rattle.sites.proofs.Positions.{all_at}
 use Rattle.plans.specs.Plans.{network}
-use Rattle.plans.proofs.Sets.{number, number_is}
+use Rattle.sites.proofs.Table.{number, number_is}
 use Rattle.plans.proofs.Wholes.{plan_sites, plan_rogues}
 use Rattle.runs.specs.State.{last_turn}
-use Rattle.floors.specs.declared.site_plan.SitePlan.{SitePlan}
+use Rattle.site_plans.specs.declared.site_plan.SitePlan.{SitePlan}
 use Rattle.floors.specs.Tables.{site_network}
 
 -- so many whole phases are over exactly when all their turns are

@@ -3,10 +3,9 @@ use Rattle.std.specs.Prelude.{◌≡◌, ℕ, min, List, ◌++◌, length, take,
 use Rattle.sites.specs.declared.refusal.Refusal.{Refusal}
 use Rattle.theory.specs.Network.{Network, Suspect}
 use Rattle.runs.specs.declared.calls.Call.{Call}
-use Rattle.runs.specs.declared.calls.Answer.{Answer}
 use Rattle.runs.specs.State.{State, opened}
 use Rattle.runs.specs.Replies.{open_reply}
-use Rattle.runs.specs.Runs.{Entry, Ran, entries, after as left_by, answers as answers_to}
+use Rattle.runs.specs.Runs.{Answer, Entry, Ran, entries, after as left_by, answers as answers_to}
 use Rattle.runs.specs.Guarantee.{Guaranteed}
 
 -- Some calls were performed on a floor, one after another, and were answered so; they led from one state to another.

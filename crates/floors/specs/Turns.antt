@@ -5,14 +5,14 @@ use Rattle.theory.specs.Weighing.{weigh}
 use Rattle.theory.specs.Runs.{suspect}
 use Rattle.airs.specs.Lanes.{Lanes, lane}
 use Rattle.notebooks.specs.Floods.{heard_in}
-use Rattle.notebooks.specs.Notebooks.{empty_book, note_round, told_by}
+use Rattle.notebooks.specs.Notebooks.{take_round, told_by}
 use Rattle.runs.specs.State.{SiteRecord as Kept}
 use Rattle.tables.specs.Tables.{table_network}
 use Rattle.tables.specs.declared.table.PathTable.{PathTable}
 
 -- a notebook when its site has heard a round: the first round of a phase begins with an empty one
 abbrev pub noting_in : Network → Lanes → ℕ → ℕ → List ℕ → List ℕ
-noting_in N ls v round book = note_round N v round (heard_in (lane ls)) (cond (round == 1) empty_book book)
+noting_in N ls v round book = take_round N v round (heard_in (lane ls)) book
 
 -- a record when its site has heard a round
 abbrev pub noted_by : PathTable → Lanes → ℕ → Kept → Kept

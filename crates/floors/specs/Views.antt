@@ -13,7 +13,7 @@ use Rattle.notebooks.specs.Notebooks.{empty_book, owed_words}
 use Rattle.tables.specs.Tables.{table_network}
 use Rattle.tables.specs.declared.table.PathTable.{PathTable}
 use Rattle.runs.specs.State.{State, SiteRecord as Kept, blank}
-use Rattle.floors.specs.declared.site_plan.SitePlan.{SitePlan}
+use Rattle.site_plans.specs.declared.site_plan.SitePlan.{SitePlan}
 use Rattle.floors.specs.declared.record.SiteRecord.{SiteRecord}
 use Rattle.floors.specs.declared.record.Records.{Records}
 use Rattle.floors.specs.declared.floor.Floor.{Floor}

@@ -2,7 +2,7 @@ ghost use Rattle.std.specs.Prelude.{◌≡◌, ℕ, ◌<◌, true, [], map, leng
 ghost use Rattle.theory.specs.Flooding.{expected};
 ghost use Rattle.floors.specs.Tables.{site_network, table_site, table_count, level_at, same_paths};
 
-use crate::site_plan::SitePlan;
+use site_plans::SitePlan;
 use tables::PathTable;
 
 /// What a floor was opened on: a copy of the plan and, for each site, the table of the paths along which it expects a

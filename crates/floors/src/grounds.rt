@@ -2,8 +2,9 @@ ghost use Rattle.std.specs.Prelude.{◌≡◌, ◌<◌};
 ghost use Rattle.floors.specs.Tables.{site_network, Fits};
 
 use crate::ground::Ground;
-use crate::site_plan::SitePlan;
 use plans::Plan;
+use site_plans::SitePlan;
+use std::array;
 use tables::{PathTable, Wiring};
 
 impl Ground {
@@ -13,18 +14,12 @@ impl Ground {
     {
         let base = SitePlan { plan: *plan };
         let wiring = Wiring::of(&base);
-        let tables = [
-            PathTable::of(&wiring, 0),
-            PathTable::of(&wiring, 1),
-            PathTable::of(&wiring, 2),
-            PathTable::of(&wiring, 3),
-            PathTable::of(&wiring, 4),
-            PathTable::of(&wiring, 5),
-        ];
+        let tables = array::from_fn(|site| PathTable::of(&wiring, site as u8));
         Ground { base, tables }
     }
 
     // The table of a site.
+    #[tactic(auto, using(site_plans::proofs::Made::base_few))]
     pub(crate) fn table(&self, site: u8) -> &PathTable
         requires { site < (site_network self.now.base).n }
         ensures { Fits (site_network self.now.base) site result.now }

@@ -12,10 +12,8 @@ mod putting;
 mod recalling;
 mod record;
 mod records;
-mod routing;
-mod site_plan;
 mod speaking;
 mod turning;
 
 pub use floor::Floor;
-pub use site_plan::SitePlan;
+pub use site_plans::SitePlan;

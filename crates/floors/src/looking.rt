@@ -3,21 +3,9 @@ ghost use Rattle.plans.specs.Plans.{sheet, network};
 ghost use Rattle.floors.specs.Views.{record_at, view, plan_sheet};
 
 use crate::floor::Floor;
-use crate::record::Records;
 use airs::Air;
 use plans::Plan;
 use sites::SiteMask;
-
-impl Records {
-    // The words of a site's notebook.
-    fn notebook(&self, site: u8) -> &[u32]
-        requires { site < 6 }
-        ensures { result.now ≡ (record_at self.now site).notebook }
-    {
-        let record = &self.sites[site as usize];
-        record.notebook.words()
-    }
-}
 
 impl<A: Air> Floor<A> {
     /// The accepted turns since the floor was opened.
@@ -56,6 +44,6 @@ impl<A: Air> Floor<A> {
         if site >= 6 {
             return &[];
         }
-        self.records.notebook(site)
+        self.records.of(site).notebook.words()
     }
 }

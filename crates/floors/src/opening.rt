@@ -14,10 +14,9 @@ use sites::{Refusal, SiteMask};
 
 impl<A: Air> Floor<A> {
     /// A new floor over an air: opened on the built-in plan, with no rogues and all bits 0.
-    pub fn new(air: A) -> Floor<A>
+    pub fn new(mut air: A) -> Floor<A>
         ensures { view A.lanes result ≡ opened built_in 0 0 }
     {
-        let mut air = air;
         air.clear();
         let none = SiteMask { bits: 0 };
         let plan = Plan::built_in();

@@ -1,51 +1,31 @@
-ghost use Rattle.std.specs.Prelude.{◌≡◌, ◌<◌};
+ghost use Rattle.std.specs.Prelude.{◌≡◌};
 ghost use Rattle.notebooks.specs.Floods.{flood_in};
 ghost use Rattle.runs.specs.State.{rounds_noted};
 ghost use Rattle.runs.specs.Replies.{recalled_reply};
-ghost use Rattle.rounds.specs.Recalling.{recall_reply};
-ghost use Rattle.tables.specs.Tables.{table_network};
-ghost use Rattle.floors.specs.Views.{record_at, asks_reply, view};
+ghost use Rattle.floors.specs.Views.{asks_reply, view};
 
 use crate::floor::Floor;
-use crate::record::Records;
 use airs::Air;
 use sites::Refusal;
-use tables::PathTable;
-
-impl Records {
-    // The bit in a site's notebook for a path, when so many rounds were heard.
-    fn recalled(
-        &self,
-        table: &PathTable,
-        site: u8,
-        word: u32,
-        rounds: usize,
-    ) -> Result<bool, Refusal>
-        requires { site < 6 }
-        ensures { result ≡ recall_reply (table_network table.now) table.now.site rounds (record_at self.now site).notebook word }
-    {
-        let record = &self.sites[site as usize];
-        record.notebook.recalled(table, word, rounds)
-    }
-}
 
 impl<A: Air> Floor<A> {
     // How many rounds of a phase the notebooks are about.
     fn rounds_heard(&self) -> usize
         ensures { result ≡ rounds_noted (view A.lanes self.now).net (view A.lanes self.now).turns }
     {
-        let rounds = self.site_count() as usize - 1;
         if self.turns == 0 {
             return 0;
         }
-        (self.turns - 1) % rounds + 1
+        (self.turns - 1) % self.rounds() + 1
     }
 
     // 5 for a word that asks for no path: any notebook refuses it.
+    #[tactic(auto, using(site_plans::proofs::Made::base_some))]
     fn asks(&self, word: u32) -> Result<(), Refusal>
         ensures { result ≡ asks_reply (flood_in word) }
     {
-        match self.records.recalled(self.ground.table(0), 0, word, 0) {
+        let book = &self.records.of(0).notebook;
+        match book.recalled(self.ground.table(0), word, 0) {
             Err(Refusal::Path) => Err(Refusal::Path),
             _ => Ok(()),
         }
@@ -59,7 +39,7 @@ impl<A: Air> Floor<A> {
     {
         self.asks(word)?;
         self.sound(site)?;
-        self.records
-            .recalled(self.ground.table(site), site, word, self.rounds_heard())
+        let book = &self.records.of(site).notebook;
+        book.recalled(self.ground.table(site), word, self.rounds_heard())
     }
 }

@@ -1,4 +1,4 @@
-ghost use Rattle.std.specs.Prelude.{◌≡◌, ◌<◌, false, ◌&&◌, map};
+ghost use Rattle.std.specs.Prelude.{◌≡◌, ◌<◌, ◌&&◌, map};
 ghost use Rattle.std.specs.List.{range_with_len};
 ghost use Rattle.sites.specs.Sets.{in_set};
 ghost use Rattle.floors.specs.Views.{seen, record_at, fresh, sound_of};
@@ -6,6 +6,7 @@ ghost use Rattle.floors.specs.Views.{seen, record_at, fresh, sound_of};
 use crate::record::{Records, SiteRecord};
 use rounds::Notebook;
 use sites::SiteMask;
+use std::array;
 
 // Whether a site is below n and no rogue.
 pub(crate) fn is_sound(n: u8, rogues: SiteMask, site: u8) -> bool
@@ -40,30 +41,15 @@ impl Records {
         ensures { map seen result.sites ≡ map (λ s. fresh (sound_of n rogues.bits s && in_set bits.bits s)) (range_with_len 0 6) }
     {
         Records {
-            sites: [
-                Records::first(n, rogues, bits, 0),
-                Records::first(n, rogues, bits, 1),
-                Records::first(n, rogues, bits, 2),
-                Records::first(n, rogues, bits, 3),
-                Records::first(n, rogues, bits, 4),
-                Records::first(n, rogues, bits, 5),
-            ],
+            sites: array::from_fn(|site| Records::first(n, rogues, bits, site as u8)),
         }
     }
 
-    // The bit that a site holds.
-    pub(crate) fn bit(&self, site: u8) -> bool
+    // The record of a site.
+    pub(crate) fn of(&self, site: u8) -> &SiteRecord
         requires { site < 6 }
-        ensures { result ≡ (record_at self.now site).holds }
+        ensures { seen result.now ≡ record_at self.now site }
     {
-        self.sites[site as usize].bit
-    }
-
-    // Whether a site has spoken in this round.
-    pub(crate) fn has_spoken(&self, site: u8) -> bool
-        requires { site < 6 }
-        ensures { result ≡ (record_at self.now site).spoken }
-    {
-        self.sites[site as usize].spoken
+        &self.sites[site as usize]
     }
 }

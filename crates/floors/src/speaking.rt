@@ -1,5 +1,5 @@
-ghost use Rattle.std.specs.Prelude.{◌≡◌, ◌<◌, ◌≤◌, map, slice_set};
-ghost use Rattle.airs.specs.Lanes.{Lanes, kept};
+ghost use Rattle.std.specs.Prelude.{◌≡◌, ◌<◌, map, slice_set};
+ghost use Rattle.airs.specs.Lanes.{kept};
 ghost use Rattle.runs.specs.Replies.{as_spoken, speak_reply, speak_next};
 ghost use Rattle.rounds.specs.Speaking.{put_all_reply, put_all_next};
 ghost use Rattle.floors.specs.Views.{seen, record_at, owed_by, view, plan_sheet};
@@ -59,7 +59,7 @@ impl<A: Air> Floor<A> {
         if self.is_over() {
             return Err(Refusal::Over);
         }
-        if self.records.has_spoken(site) {
+        if self.records.of(site).spoken {
             return Err(Refusal::Spoken);
         }
         if self.air.count(site) > self.air.lane_size() {

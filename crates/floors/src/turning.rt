@@ -1,44 +1,27 @@
-ghost use Rattle.std.specs.Prelude.{◌≡◌, ◌<◌, ◌≤◌, false, ◌||◌, map, length};
+ghost use Rattle.std.specs.Prelude.{◌≡◌, ◌≤◌, cond, ◌||◌, map};
 ghost use Rattle.std.specs.List.{range_with_len};
 ghost use Rattle.sites.specs.Positions.{all_from};
 ghost use Rattle.sites.specs.Sets.{in_set};
-ghost use Rattle.theory.specs.Runs.{suspect};
-ghost use Rattle.runs.specs.Replies.{turned_site, all_spoke as all_have_spoken, turn_reply, turn_next};
+ghost use Rattle.runs.specs.Replies.{turned_site, turn_reply, turn_next};
 ghost use Rattle.floors.specs.Tables.{site_network};
 ghost use Rattle.floors.specs.Turns.{noted_by, weighed_by, turned_by};
-ghost use Rattle.floors.specs.Views.{seen, record_at, state_of, view, plan_sheet};
+ghost use Rattle.floors.specs.Views.{seen, record_at, sound_of, state_of, view, plan_sheet};
 
 use crate::floor::Floor;
 use crate::ground::Ground;
 use crate::record::{Records, SiteRecord};
 use crate::records::is_sound;
-use crate::site_plan::SitePlan;
 use airs::Air;
-use rounds::Notebook;
+use site_plans::SitePlan;
 use sites::{Refusal, SiteMask};
-use tables::{PathTable, Routing};
-
-impl Ground {
-    // The suspect set of a phase.
-    fn suspect(&self, phase: usize) -> SiteMask
-        ensures { result.bits ≡ suspect (site_network self.now.base) phase }
-    {
-        match self.base.plan.suspect(phase) {
-            Some(set) => set,
-            None => SiteMask { bits: 0 },
-        }
-    }
-}
+use tables::PathTable;
 
 impl SiteRecord {
     // Hears a round, which the first round of a phase does with an empty notebook.
     fn hear<A: Air>(&mut self, air: &A, table: &PathTable, round: usize)
         ensures { seen self.new ≡ noted_by table.now (A.lanes air.now) round (seen self.old) }
     {
-        if round == 1 {
-            self.notebook = Notebook::new();
-        }
-        self.notebook.hear_round(air, table, round);
+        self.notebook.take_round(air, table, round);
         self.spoken = false;
     }
 
@@ -49,40 +32,31 @@ impl SiteRecord {
         self.bit = self.notebook.weigh(plan, table, set, self.bit);
     }
 
-    // Hears the round that some turns came before, and weighs where it is the last of its phase.
-    fn turn<A: Air>(&mut self, air: &A, ground: &Ground, site: u8, turns: usize)
-        requires { site < (site_network ground.now.base).n }
-        ensures { seen self.new ≡ turned_by (site_network ground.now.base) (A.lanes air.now) turns site (seen self.old) }
+    // A sound site hears the round that some turns came before, and weighs where it is the last of its phase.
+    fn turn<A: Air>(&mut self, air: &A, ground: &Ground, rogues: SiteMask, site: u8, turns: usize)
+        ensures { seen self.new ≡ cond (sound_of (site_network ground.now.base).n rogues.bits site) (turned_by (site_network ground.now.base) (A.lanes air.now) turns site (seen self.old)) (seen self.old) }
     {
-        let rounds = ground.base.plan.site_count() as usize - 1;
+        let n = ground.base.plan.site_count();
+        if !is_sound(n, rogues, site) {
+            return;
+        }
+        let rounds = n as usize - 1;
         let round = turns % rounds + 1;
         let table = ground.table(site);
         self.hear(air, table, round);
         if round == rounds {
-            self.weigh(&ground.base, table, ground.suspect(turns / rounds));
+            self.weigh(&ground.base, table, ground.base.suspect(turns / rounds));
         }
     }
 }
 
 impl Records {
-    // How many records there are.
-    fn count(&self) -> u8
-        ensures value { result ≡ length self.now.sites }
-        ensures six { result ≡ 6 }
-    {
-        let records: &[SiteRecord] = &self.sites;
-        records.len() as u8
-    }
-
     // Lets all sound sites hear the round that some turns came before.
     fn turn<A: Air>(&mut self, air: &A, ground: &Ground, rogues: SiteMask, turns: usize)
         ensures { map seen self.new.sites ≡ map (turned_site (state_of ground.now.base rogues.bits self.old (A.lanes air.now) turns)) (range_with_len 0 6) }
     {
-        let n = ground.base.plan.site_count();
-        for site in 0..self.count() {
-            if is_sound(n, rogues, site) {
-                self.sites[site as usize].turn(air, ground, site, turns);
-            }
+        for (site, record) in self.sites.iter_mut().enumerate() {
+            record.turn(air, ground, rogues, site as u8, turns);
         }
     }
 
@@ -91,12 +65,7 @@ impl Records {
         requires { n ≤ 6 }
         ensures { result ≡ all_from (λ s. in_set rogues.bits s || (record_at self.now s).spoken) 0 n }
     {
-        for site in 0..n {
-            if !rogues.contains(site) && !self.has_spoken(site) {
-                return false;
-            }
-        }
-        true
+        (0..n).all(|site| rogues.contains(site) || self.of(site).spoken)
     }
 }
 

@@ -6,7 +6,7 @@ mod tests {
     use airs::{Air, Board, Strip};
     use floors::Floor;
     use plans::Plan;
-    use runs::{Answer, Call};
+    use runs::{Call, Value};
     use sites::{Refusal, SiteMask};
     use std::process::Abort;
     use std::test::Fail;
@@ -31,41 +31,24 @@ mod tests {
         0xB450_0000,
     ];
 
-    // The number of a refusal, and 0 where the call was accepted.
-    fn refused<T: Drop>(answer: Result<T, Refusal>) -> u8 {
-        match answer {
-            Ok(_) => 0,
-            Err(refusal) => refusal.number(),
-        }
-    }
-
-    // An answer as one number: a count, 500 and the bit, or 1,000 and the refusal's number.
-    fn number(answer: Answer) -> usize {
-        match answer {
-            Answer::Count(count) => count,
-            Answer::Bit(bit) => 500 + bit as usize,
-            Answer::Refused(refusal) => 1000 + refusal.number() as usize,
-        }
-    }
-
     // Opens the triangle: site 0 has bit 0, site 1 has bit 1, and site 2 is rogue.
     fn open_triangle<A: Air>(rt: &impl Abort, floor: &mut Floor<A>) -> Result<(), Fail> {
         let Ok(plan) = Plan::load(&TRIANGLE) else {
             return Err(Fail::new("the triangle does not load"));
         };
         assert_eq!(rt;
-            refused(floor.open(&plan, SiteMask { bits: 4 }, SiteMask { bits: 2 })),
-            0
+            floor.open(&plan, SiteMask { bits: 4 }, SiteMask { bits: 2 }),
+            Ok(())
         );
         Ok(())
     }
 
     // Lets sites 0 and 1 speak, and ends the round.
     fn round<A: Air>(rt: &impl Abort, floor: &mut Floor<A>, turn: usize) {
-        assert_eq!(rt; refused(floor.speak(0)), 0);
-        assert_eq!(rt; refused(floor.turn()), 27);
-        assert_eq!(rt; refused(floor.speak(1)), 0);
-        assert_eq!(rt; refused(floor.speak(1)), 26);
+        assert!(rt; floor.speak(0).is_ok());
+        assert_eq!(rt; floor.turn(), Err(Refusal::Unspoken));
+        assert!(rt; floor.speak(1).is_ok());
+        assert_eq!(rt; floor.speak(1), Err(Refusal::Spoken));
         assert_eq!(rt; floor.turn(), Ok(turn));
     }
 
@@ -75,20 +58,20 @@ mod tests {
         assert_eq!(rt; floor.transmit(2, 0x1000_0001), Ok(1));
         round(rt, floor, 1);
         assert_eq!(rt; floor.recalled(0, 0x1240_0000), Ok(true));
-        assert_eq!(rt; refused(floor.recalled(0, 0x1450_0000)), 29);
+        assert_eq!(rt; floor.recalled(0, 0x1450_0000), Err(Refusal::Unheard));
         round(rt, floor, 2);
         assert_eq!(rt; floor.held(0), Ok(true));
         assert_eq!(rt; floor.held(1), Ok(true));
         for turn in 3..8 {
             round(rt, floor, turn);
         }
-        assert_eq!(rt; refused(floor.decision(0)), 28);
+        assert_eq!(rt; floor.decision(0), Err(Refusal::Undecided));
         round(rt, floor, 8);
         assert_eq!(rt; floor.decision(0), Ok(true));
         assert_eq!(rt; floor.decision(1), Ok(true));
-        assert_eq!(rt; refused(floor.turn()), 24);
-        assert_eq!(rt; refused(floor.speak(0)), 24);
-        assert_eq!(rt; refused(floor.transmit(2, 0)), 24);
+        assert_eq!(rt; floor.turn(), Err(Refusal::Over));
+        assert_eq!(rt; floor.speak(0), Err(Refusal::Over));
+        assert_eq!(rt; floor.transmit(2, 0), Err(Refusal::Over));
         assert_eq!(rt; floor.turns(), 8);
         Ok(())
     }
@@ -110,30 +93,30 @@ mod tests {
         open_triangle(rt, floor)?;
         let pair = Plan::built_in();
         assert_eq!(rt;
-            refused(floor.open(&pair, SiteMask { bits: 4 }, SiteMask { bits: 0 })),
-            11
+            floor.open(&pair, SiteMask { bits: 4 }, SiteMask { bits: 0 }),
+            Err(Refusal::MaskSite)
         );
         assert_eq!(rt;
-            refused(floor.open(&pair, SiteMask { bits: 3 }, SiteMask { bits: 4 })),
-            11
+            floor.open(&pair, SiteMask { bits: 3 }, SiteMask { bits: 4 }),
+            Err(Refusal::MaskSite)
         );
         assert_eq!(rt;
-            refused(floor.open(&pair, SiteMask { bits: 1 }, SiteMask { bits: 0 })),
-            12
+            floor.open(&pair, SiteMask { bits: 1 }, SiteMask { bits: 0 }),
+            Err(Refusal::ManyRogues)
         );
-        assert_eq!(rt; refused(floor.transmit(3, 0)), 21);
-        assert_eq!(rt; refused(floor.transmit(0, 0)), 22);
-        assert_eq!(rt; refused(floor.speak(3)), 21);
-        assert_eq!(rt; refused(floor.speak(2)), 23);
-        assert_eq!(rt; refused(floor.held(255)), 21);
-        assert_eq!(rt; refused(floor.held(2)), 23);
-        assert_eq!(rt; refused(floor.decision(3)), 21);
-        assert_eq!(rt; refused(floor.decision(2)), 23);
-        assert_eq!(rt; refused(floor.decision(0)), 28);
-        assert_eq!(rt; refused(floor.recalled(3, 0x1240_0001)), 5);
-        assert_eq!(rt; refused(floor.recalled(3, 0x1240_0000)), 21);
-        assert_eq!(rt; refused(floor.recalled(2, 0x1240_0000)), 23);
-        assert_eq!(rt; refused(floor.recalled(0, 0x1240_0000)), 29);
+        assert_eq!(rt; floor.transmit(3, 0), Err(Refusal::NoSite));
+        assert_eq!(rt; floor.transmit(0, 0), Err(Refusal::SoundSite));
+        assert_eq!(rt; floor.speak(3), Err(Refusal::NoSite));
+        assert_eq!(rt; floor.speak(2), Err(Refusal::RogueSite));
+        assert_eq!(rt; floor.held(255), Err(Refusal::NoSite));
+        assert_eq!(rt; floor.held(2), Err(Refusal::RogueSite));
+        assert_eq!(rt; floor.decision(3), Err(Refusal::NoSite));
+        assert_eq!(rt; floor.decision(2), Err(Refusal::RogueSite));
+        assert_eq!(rt; floor.decision(0), Err(Refusal::Undecided));
+        assert_eq!(rt; floor.recalled(3, 0x1240_0001), Err(Refusal::Path));
+        assert_eq!(rt; floor.recalled(3, 0x1240_0000), Err(Refusal::NoSite));
+        assert_eq!(rt; floor.recalled(2, 0x1240_0000), Err(Refusal::RogueSite));
+        assert_eq!(rt; floor.recalled(0, 0x1240_0000), Err(Refusal::Unheard));
         Ok(())
     }
 
@@ -164,8 +147,16 @@ mod tests {
             Call::Decision { site: 1 },
             Call::Turn,
         ];
-        let wanted = [1, 1, 1028, 1, 501, 501, 1024];
-        let mut answers = [Answer::Count(0); 7];
+        let wanted = [
+            Ok(Value::Count(1)),
+            Ok(Value::Count(1)),
+            Err(Refusal::Undecided),
+            Ok(Value::Count(1)),
+            Ok(Value::Bit(true)),
+            Ok(Value::Bit(true)),
+            Err(Refusal::Over),
+        ];
+        let mut answers = [Ok(Value::Count(0)); 7];
         let mut floor = Floor::new(Board::new());
         let plan = Plan::built_in();
         assert_eq!(rt;
@@ -178,8 +169,6 @@ mod tests {
             ),
             Ok(7)
         );
-        for k in 0..7 {
-            assert_eq!(rt; number(answers[k]), wanted[k]);
-        }
+        assert_eq!(rt; answers, wanted);
     }
 }

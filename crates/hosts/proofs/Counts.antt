@@ -5,7 +5,7 @@ use Rattle.sites.specs.declared.refusal.Refusal.{Refusal}
 use Rattle.sites.specs.declared.refusal.Refusal.TheVariants.{NoSite, SoundSite, RogueSite, LaneFull, Over, Spoken, Unspoken}
 use Rattle.runs.specs.declared.calls.Call.{Call}
 use Rattle.runs.specs.declared.calls.Call.TheVariants.{Transmit, Speak, Turn, Held, Decision, Recalled}
-use Rattle.runs.specs.declared.calls.Answer.TheVariants.{Count}
+use Rattle.runs.specs.declared.calls.Value.TheVariants.{Count}
 use Rattle.sites.specs.Sets.{in_set}
 use Rattle.airs.specs.Lanes.{Lanes, count_of, put_reply}
 use Rattle.runs.specs.State.{State, site, over}
@@ -20,11 +20,11 @@ refused_or : (t : Bool) (e : Refusal) (r : Result ℕ Refusal) → (t ≡ false 
 refused_or true e r h = tt
 refused_or false e r h = h refl
 
-counted_small : (r : Result ℕ Refusal) (k : ℕ) → Small r → counted r ≡ Count k → k < 2 ^ 32
+counted_small : (r : Result ℕ Refusal) (k : ℕ) → Small r → counted r ≡ Ok (Count k) → k < 2 ^ 32
 counted_small (Ok j) k s e = let z : j ≡ k = cc in omega arith
 counted_small (Err x) k s e = absurd (let z : ◌≡◌ {A = ℕ} 0 1 = cc in omega arith)
 
-told_never : (r : Result Bool Refusal) (k : ℕ) → told r ≡ Count k → ⊥
+told_never : (r : Result Bool Refusal) (k : ℕ) → told r ≡ Ok (Count k) → ⊥
 told_never (Ok b) k e = let z : ◌≡◌ {A = ℕ} 0 1 = cc in omega arith
 told_never (Err x) k e = let z : ◌≡◌ {A = ℕ} 0 1 = cc in omega arith
 
@@ -57,7 +57,7 @@ speak_small st s =
     (λ _. refused_or (in_set st.rogues s) RogueSite (cond (over st) (Err Over) then)
     (λ _. refused_or (over st) Over then (λ _. refused_or (site st s).spoken Spoken last (λ _. speech_small st s))))
 
-pub count_fits : (st : State) → (over st ≡ false → st.turns < 200) → (c : Call) (k : ℕ) → reply 120 st c ≡ Count k → k < 2 ^ 32
+pub count_fits : (st : State) → (over st ≡ false → st.turns < 200) → (c : Call) (k : ℕ) → reply 120 st c ≡ Ok (Count k) → k < 2 ^ 32
 count_fits st few (Transmit s w) k e = counted_small (transmit_reply 120 st s) k (transmit_small st s) e
 count_fits st few (Speak s) k e = counted_small (speak_reply 120 st s) k (speak_small st s) e
 count_fits st few Turn k e = counted_small (turn_reply st) k (turn_small st few) e

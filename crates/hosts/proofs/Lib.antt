@@ -1,5 +1,5 @@
 mod Places
 mod Counts
 mod Performs
-mod Copies
+mod Heard
 mod Phases

@@ -18,8 +18,7 @@ use Rattle.runs.proofs.Runs.{runs_so}
 use Rattle.hosts.specs.declared.refused.HostRefusal.{HostRefusal}
 use Rattle.hosts.specs.Answered.{then_by, by_engine}
 use Rattle.hosts.specs.Sheets.{placeless, checked, sheet_network}
-use Rattle.hosts.specs.declared.pairs.Pair.{Pair}
-use Rattle.hosts.specs.Calls.{call_at, pair_for, state_for, with_call, calls_in, answers_in}
+use Rattle.hosts.specs.Calls.{Pair, call_at, pair_for, state_for, with_call, calls_in, answers_in}
 use Rattle.hosts.specs.Replays.{run_reply, answers_over, GuaranteedAfter}
 
 after_one : (size : ℕ) (st : State) (cs : List Call) (c : Call) → after size st (cs ++ c ∷ []) ≡ next size (after size st cs) c

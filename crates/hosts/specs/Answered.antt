@@ -3,10 +3,11 @@ use Rattle.std.specs.Prelude.{ℕ, cond, Ok, Err, Result, nat_lt}
 use Rattle.sites.specs.declared.refusal.Refusal.{Refusal}
 use Rattle.sites.specs.Refusals.{number_of}
 use Rattle.hosts.specs.declared.refused.HostRefusal.{HostRefusal}
-use Rattle.hosts.specs.declared.refused.HostRefusal.TheVariants.{TooShort, NoState, Engine}
+use Rattle.hosts.specs.declared.refused.HostRefusal.TheVariants.{NoCall, TooShort, NoState, Engine}
 
--- the number of a refusal: 101 and 102 are a host's own, the others are the engine's
+-- the number of a refusal: 100 to 102 are a host's own, the others are the engine's
 abbrev pub host_number : HostRefusal → ℕ
+host_number NoCall = 100
 host_number TooShort = 101
 host_number NoState = 102
 host_number (Engine e) = number_of e

@@ -1,14 +1,18 @@
 -- Calls on a floor and their answers, as words.
-use Rattle.std.specs.Prelude.{ℕ, zero, suc, ◌+◌, ◌*◌, cond, List, [], ◌∷◌, ◌++◌, Some, None, Option, ◌==◌, slice_index}
+use Rattle.std.specs.Prelude.{ℕ, zero, suc, ◌+◌, ◌*◌, cond, List, [], ◌∷◌, ◌++◌, Some, None, Ok, Err, Option, Result, ◌==◌, slice_index}
 use Rattle.sites.specs.Refusals.{number_of}
 use Rattle.runs.specs.declared.calls.Call.{Call}
 use Rattle.runs.specs.declared.calls.Call.TheVariants.{Transmit, Speak, Turn, Held, Decision, Recalled}
-use Rattle.runs.specs.declared.calls.Answer.{Answer}
-use Rattle.runs.specs.declared.calls.Answer.TheVariants.{Count, Bit, Refused}
+use Rattle.runs.specs.declared.calls.Value.TheVariants.{Count, Bit}
 use Rattle.runs.specs.State.{State}
-use Rattle.runs.specs.Runs.{reply, next, after}
-use Rattle.hosts.specs.declared.pairs.Pair.{Pair}
-use Rattle.hosts.specs.Answered.{site_of}
+use Rattle.runs.specs.Runs.{Answer, reply, next, after}
+use Rattle.hosts.specs.declared.refused.HostRefusal.{HostRefusal}
+use Rattle.hosts.specs.Answered.{host_number, site_of}
+
+-- the two words that answer a call
+pub record Pair : Type 0 where
+  pub number : ℕ
+  pub value : ℕ
 
 -- the call that a code, a site and a word name; nothing for another code
 abbrev pub call_of : ℕ → ℕ → ℕ → Option Call
@@ -27,9 +31,14 @@ call_at ws k = call_of (slice_index ws (3 * k)) (slice_index ws (3 * k + 1)) (sl
 
 -- an answer in two words: 0 and the value, or the refusal's number and 0
 abbrev pub pair_of : Answer → Pair
-pair_of (Count k) = record { number = 0; value = k }
-pair_of (Bit b) = record { number = 0; value = cond b 1 0 }
-pair_of (Refused e) = record { number = number_of e; value = 0 }
+pair_of (Ok (Count k)) = record { number = 0; value = k }
+pair_of (Ok (Bit b)) = record { number = 0; value = cond b 1 0 }
+pair_of (Err e) = record { number = number_of e; value = 0 }
+
+-- so a value, or a refusal that a host gets
+abbrev pub pair_in : Result ℕ HostRefusal → Pair
+pair_in (Ok k) = record { number = 0; value = k }
+pair_in (Err e) = record { number = host_number e; value = 0 }
 
 -- how a floor answers a call; what is none is answered by 100
 abbrev pub pair_for : ℕ → State → Option Call → Pair

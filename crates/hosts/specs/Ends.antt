@@ -7,6 +7,8 @@ use Rattle.airs.specs.Lanes.{Lanes, silent, put_next}
 use Rattle.single_end.specs.Ends.{InRound, InWeighing, Afterwards, Standing, next_round, all_taken, in_round, done, begin_reply, same_size, speak_reply, owed_by, taken, book_taken, weighed}
 use Rattle.single_end.specs.declared.numbers.Numbers.{Numbers}
 use Rattle.hosts.specs.declared.end_words.EndWords.{EndWords}
+use Rattle.hosts.specs.declared.end_words.Tag.{Tag}
+use Rattle.hosts.specs.declared.end_words.Tag.TheVariants as tag
 use Rattle.hosts.specs.declared.refused.HostRefusal.{HostRefusal}
 use Rattle.hosts.specs.declared.refused.HostRefusal.TheVariants.{TooShort, NoState, Engine}
 use Rattle.hosts.specs.Answered.{then_by, site_of}
@@ -35,6 +37,15 @@ weighing_kept w = record { tag = 2; site = w.site; bit = bit_word w.holds; phase
 
 abbrev pub done_kept : Bool → EndWords
 done_kept b = record { tag = 3; site = 0; bit = bit_word b; phase = 0; round = 0; n = 0; f = 0 }
+
+-- the word of each tag, and the words of a state that has some numbers
+abbrev pub tag_word : Tag → ℕ
+tag_word tag.Round = 1
+tag_word tag.Weighing = 2
+tag_word tag.Done = 3
+
+abbrev pub words_kept : Tag → Numbers → EndWords
+words_kept t x = record { tag = tag_word t; site = x.site; bit = bit_word x.bit; phase = x.phase; round = x.round; n = x.n; f = x.f }
 
 abbrev pub after_taking : Afterwards → EndWords
 after_taking (next_round e) = round_kept e

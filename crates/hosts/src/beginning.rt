@@ -2,7 +2,7 @@ ghost use Rattle.std.specs.Prelude.{◌≡◌};
 ghost use Rattle.hosts.specs.Answered.{answered as answered_by, left_by};
 ghost use Rattle.hosts.specs.Ends.{begin_on, begin_outcome, kept_over};
 
-use crate::end_words::EndWords;
+use crate::end_words::{EndWords, Tag};
 use crate::ends::named_bit;
 use crate::loading::loaded;
 use crate::refused::HostRefusal;
@@ -16,7 +16,7 @@ fn begun(sheet: &[u32], site: u32, bit: u32) -> Result<EndWords, HostRefusal>
     let plan = loaded(sheet)?;
     let bit = named_bit(bit)?;
     let round = Round::begin(&plan, named_site(site), bit)?;
-    Ok(EndWords::of_round(round))
+    Ok(EndWords::of(Tag::Round, round.saved()))
 }
 
 // Begins an end and keeps it in a host's words.

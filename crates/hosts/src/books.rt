@@ -20,8 +20,9 @@ pub(crate) fn notebook_of(words: &[u32]) -> Notebook
     ensures { result.words ≡ take 325 words.now }
 {
     let mut book = Notebook::new();
-    for place in 0..325 {
-        let _ = book.set_word(place, words[place]);
+    let kept = &words[0..325];
+    for (place, word) in kept.iter().enumerate() {
+        let _ = book.set_word(place, *word);
     }
     book
 }
@@ -39,8 +40,8 @@ pub(crate) fn board_of(heard: &[u32]) -> Board
     ensures { board_lanes result ≡ heard_lanes heard.now }
 {
     let mut board = Board::new();
-    for k in 0..heard.len() / 2 {
-        let _ = board.put(named_site(heard[2 * k]), heard[2 * k + 1]);
+    for pair in heard.chunks_exact(2) {
+        let _ = board.put(named_site(pair[0]), pair[1]);
     }
     board
 }
@@ -52,9 +53,10 @@ pub(crate) fn write_lane(board: &Board, site: u8, words: &mut [u32])
 {
     let count = board.count(site);
     words[0] = count as u32;
-    for k in 0..count {
-        if let Some(word) = board.at(site, k) {
-            words[k + 1] = word;
+    let room = &mut words[1..count + 1];
+    for (k, word) in room.iter_mut().enumerate() {
+        if let Some(put) = board.at(site, k) {
+            *word = put;
         }
     }
 }

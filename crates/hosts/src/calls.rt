@@ -1,10 +1,9 @@
-ghost use Rattle.std.specs.Prelude.{◌≡◌, ℕ, ◌^◌, ◌<◌};
-ghost use Rattle.runs.specs.declared.calls.Answer.TheVariants.{Count};
-ghost use Rattle.hosts.specs.Calls.{call_of, pair_of};
+ghost use Rattle.std.specs.Prelude.{◌≡◌};
+ghost use Rattle.hosts.specs.Calls.{call_of, pair_in};
 
-use crate::pairs::Pair;
+use crate::refused::HostRefusal;
 use crate::refusing::named_site;
-use runs::{Answer, Call};
+use runs::Call;
 
 // The call that a code, a site and a word name; nothing for another code.
 pub(crate) fn named_call(code: u32, site: u32, word: u32) -> Option<Call>
@@ -22,23 +21,12 @@ pub(crate) fn named_call(code: u32, site: u32, word: u32) -> Option<Call>
     }
 }
 
-// The words of an answer, whose count, if it is one, fits a word.
-pub(crate) fn in_words(answer: Answer) -> Pair
-    requires { (k : ℕ) → answer ≡ Count k → k < 2 ^ 32 }
-    ensures { result ≡ pair_of answer }
+// The two words of an answer: 0 and the value, or the refusal's number and 0.
+pub(crate) fn in_words(answer: Result<u32, HostRefusal>) -> (u32, u32)
+    ensures { record { number = result.0; value = result.1 } ≡ pair_in answer }
 {
     match answer {
-        Answer::Count(count) => Pair {
-            number: 0,
-            value: count as u32,
-        },
-        Answer::Bit(bit) => Pair {
-            number: 0,
-            value: bit as u32,
-        },
-        Answer::Refused(refusal) => Pair {
-            number: refusal.number() as u32,
-            value: 0,
-        },
+        Ok(value) => (0, value),
+        Err(refusal) => (refusal.number(), 0),
     }
 }

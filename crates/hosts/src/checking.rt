@@ -1,24 +1,28 @@
-ghost use Rattle.std.specs.Prelude.{◌≡◌, slice_set};
-ghost use Rattle.hosts.specs.Answered.{answered};
-ghost use Rattle.hosts.specs.Sheets.{checked, checked_place};
+ghost use Rattle.std.specs.Prelude.{◌≡◌, ◌^◌, ◌<◌, slice_set};
+ghost use Rattle.std.specs.Result.{ForErr};
+ghost use Rattle.hosts.specs.Answered.{answered as answered_by};
+ghost use Rattle.hosts.specs.Sheets.{placeless as without_place, place_in, checked, checked_place};
 
-use crate::pairs::Pair;
+use crate::refused::HostRefusal;
+use crate::refusing::answered;
 use plans::judge;
+use sheets::SheetRefusal;
 
-// The number and the place of a sheet's refusal; zeros where it is complete.
-fn found(sheet: &[u32]) -> Pair
-    ensures number { result.number ≡ answered (checked sheet.now) }
-    ensures place { result.value ≡ checked_place sheet.now }
+// What the check of a sheet answers, without the place.
+fn placeless(judged: Result<(), SheetRefusal>) -> Result<(), HostRefusal>
+    ensures { result ≡ without_place judged }
 {
-    match judge(sheet) {
-        Ok(()) => Pair {
-            number: 0,
-            value: 0,
-        },
-        Err(refused) => Pair {
-            number: refused.refusal.number() as u32,
-            value: refused.place as u32,
-        },
+    Ok(judged?)
+}
+
+// The place of a sheet's refusal; 0 where there is none.
+fn refused_place(judged: Result<(), SheetRefusal>) -> u32
+    requires { ForErr judged (λ e. e.place < 2 ^ 32) }
+    ensures { result ≡ place_in judged }
+{
+    match judged {
+        Ok(()) => 0,
+        Err(refused) => refused.place as u32,
     }
 }
 
@@ -26,12 +30,12 @@ fn found(sheet: &[u32]) -> Pair
 /// `place` is the refusal's place, and 0 where there is none; the other words stay.
 #[unsafe(no_mangle)]
 pub extern "C" fn rolgevin_check(sheet: &[u32], place: &mut [u32]) -> u32
-    ensures answer { result ≡ answered (checked sheet.now) }
+    ensures answer { result ≡ answered_by (checked sheet.now) }
     ensures place { place.new ≡ slice_set place.old 0 (checked_place sheet.now) }
 {
-    let found = found(sheet);
+    let judged = judge(sheet);
     if place.len() > 0 {
-        place[0] = found.value;
+        place[0] = refused_place(judged);
     }
-    found.number
+    answered(placeless(judged))
 }

@@ -1,3 +1,11 @@
+/// The state that the seven words of an end tell, by their first word.
+#[derive(Clone, Copy)]
+pub(crate) enum Tag {
+    Round = 1,
+    Weighing = 2,
+    Done = 3,
+}
+
 /// The seven words by which a host keeps a single end.
 #[derive(Clone, Copy)]
 pub(crate) struct EndWords {

@@ -1,27 +1,19 @@
-ghost use Rattle.std.specs.Prelude.{◌≡◌, ◌^◌, ◌<◌, ◌≤◌, true, length, ◌==◌};
-ghost use Rattle.single_end.specs.States.{seen_round, seen_weighing};
-ghost use Rattle.hosts.specs.Ends.{end_at, kept_over, bit_word, stands as are_numbers, round_in, weighing_in, bit_in, round_kept, weighing_kept, done_kept, WordsFit, RoundFits};
-ghost use Rattle.hosts.specs.Restored.{round_made, weighing_made};
+ghost use Rattle.std.specs.Prelude.{◌≡◌, ◌≤◌, length};
+ghost use Rattle.hosts.specs.Ends.{end_at, kept_over, bit_in, round_in, weighing_in, done_kept, words_kept, WordsFit};
+ghost use Rattle.hosts.specs.Restored.{numbers_told, round_made, weighing_made};
 
-use crate::end_words::EndWords;
+use crate::end_words::{EndWords, Tag};
 use crate::refused::HostRefusal;
 use single_end::{Numbers, Round, Weighing};
-
-// The tags of the three states.
-const ROUND: u32 = 1;
-
-const WEIGHING: u32 = 2;
-
-const DONE: u32 = 3;
 
 // The bit that a host names by a word: only 0 and 1 are bits.
 pub(crate) fn named_bit(word: u32) -> Result<bool, HostRefusal>
     ensures { result ≡ bit_in word }
 {
-    if word < 2 {
-        Ok(word == 1)
-    } else {
-        Err(HostRefusal::NoState)
+    match word {
+        0 => Ok(false),
+        1 => Ok(true),
+        _ => Err(HostRefusal::NoState),
     }
 }
 
@@ -53,61 +45,48 @@ impl EndWords {
         words[0..7].copy_from_slice(&seven);
     }
 
-    // Whether they are numbers of an end: the engine keeps n and f in 8 bits, and the site is below n.
-    fn stands(self) -> bool
-        ensures { result ≡ are_numbers self }
+    // The numbers of the state that they tell, if it has this tag: the engine keeps site, n and f in 8 bits.
+    fn numbers(self, tag: Tag) -> Option<Numbers>
+        ensures { result ≡ numbers_told tag self }
     {
-        self.bit < 2 && self.site < self.n && self.n < 256 && self.f < 256
-    }
-
-    // The numbers that they tell.
-    fn numbers(self) -> Numbers
-        requires { are_numbers self ≡ true }
-        ensures { result ≡ record { site = self.site; bit = (self.bit == 1); phase = self.phase; round = self.round; n = self.n; f = self.f } }
-    {
-        Numbers {
-            site: self.site as u8,
-            bit: self.bit == 1,
+        if self.tag != tag as u32 {
+            return None;
+        }
+        Some(Numbers {
+            site: u8::try_from(self.site).ok()?,
+            bit: named_bit(self.bit).ok()?,
             phase: self.phase as usize,
             round: self.round as usize,
-            n: self.n as u8,
-            f: self.f as u8,
-        }
+            n: u8::try_from(self.n).ok()?,
+            f: u8::try_from(self.f).ok()?,
+        })
     }
 
     // The round that they tell.
     pub(crate) fn round(self) -> Result<Round, HostRefusal>
         ensures { round_made result ≡ round_in self }
     {
-        if self.tag != ROUND || !self.stands() {
-            return Err(HostRefusal::NoState);
-        }
-        match Round::restored(self.numbers()) {
-            Some(round) => Ok(round),
-            None => Err(HostRefusal::NoState),
-        }
+        self.numbers(Tag::Round)
+            .and_then(Round::restored)
+            .ok_or(HostRefusal::NoState)
     }
 
     // The weighing that they tell.
     pub(crate) fn weighing(self) -> Result<Weighing, HostRefusal>
         ensures { weighing_made result ≡ weighing_in self }
     {
-        if self.tag != WEIGHING || !self.stands() {
-            return Err(HostRefusal::NoState);
-        }
-        match Weighing::restored(self.numbers()) {
-            Some(weighing) => Ok(weighing),
-            None => Err(HostRefusal::NoState),
-        }
+        self.numbers(Tag::Weighing)
+            .and_then(Weighing::restored)
+            .ok_or(HostRefusal::NoState)
     }
 
-    // The words of some numbers, with a tag.
-    fn of(tag: u32, numbers: Numbers) -> EndWords
+    // The words of a state that has some numbers.
+    pub(crate) fn of(tag: Tag, numbers: Numbers) -> EndWords
         requires { WordsFit numbers }
-        ensures { result ≡ record { tag = tag; site = numbers.site; bit = bit_word numbers.bit; phase = numbers.phase; round = numbers.round; n = numbers.n; f = numbers.f } }
+        ensures { result ≡ words_kept tag numbers }
     {
         EndWords {
-            tag,
+            tag: tag as u32,
             site: numbers.site as u32,
             bit: numbers.bit as u32,
             phase: numbers.phase as u32,
@@ -117,34 +96,20 @@ impl EndWords {
         }
     }
 
-    // The words of a round, which is used up.
-    pub(crate) fn of_round(round: Round) -> EndWords
-        requires { RoundFits (seen_round round) }
-        ensures { result ≡ round_kept (seen_round round) }
-    {
-        EndWords::of(ROUND, round.saved())
-    }
-
-    // The words of a weighing, which is used up.
-    pub(crate) fn of_weighing(weighing: Weighing) -> EndWords
-        requires { weighing.phase < 2 ^ 32 }
-        ensures { result ≡ weighing_kept (seen_weighing weighing) }
-    {
-        EndWords::of(WEIGHING, weighing.saved())
-    }
-
     // The words of an end that is done, with its bit.
     pub(crate) fn of_done(bit: bool) -> EndWords
         ensures { result ≡ done_kept bit }
     {
-        EndWords {
-            tag: DONE,
-            site: 0,
-            bit: bit as u32,
-            phase: 0,
-            round: 0,
-            n: 0,
-            f: 0,
-        }
+        EndWords::of(
+            Tag::Done,
+            Numbers {
+                site: 0,
+                bit,
+                phase: 0,
+                round: 0,
+                n: 0,
+                f: 0,
+            },
+        )
     }
 }

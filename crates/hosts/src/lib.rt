@@ -8,7 +8,6 @@ mod checking;
 mod end_words;
 mod ends;
 mod loading;
-mod pairs;
 mod refused;
 mod refusing;
 mod running;

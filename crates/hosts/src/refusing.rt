@@ -3,6 +3,7 @@ ghost use Rattle.hosts.specs.declared.refused.HostRefusal.TheVariants.{Engine};
 ghost use Rattle.hosts.specs.Answered.{host_number, answered as answered_by, site_of};
 
 use crate::refused::HostRefusal;
+use sheets::SheetRefusal;
 use sites::Refusal;
 
 impl From<Refusal> for HostRefusal {
@@ -13,12 +14,22 @@ impl From<Refusal> for HostRefusal {
     }
 }
 
+// Without the place.
+impl From<SheetRefusal> for HostRefusal {
+    ghost from_gives = { λ e r. r ≡ Engine e.refusal };
+
+    fn from(refused: SheetRefusal) -> HostRefusal {
+        HostRefusal::Engine(refused.refusal)
+    }
+}
+
 impl HostRefusal {
     // Its number: those of the engine stand in the engine's table.
     pub(crate) fn number(self) -> u32
         ensures { result ≡ host_number self }
     {
         match self {
+            HostRefusal::NoCall => 100,
             HostRefusal::TooShort => 101,
             HostRefusal::NoState => 102,
             HostRefusal::Engine(refusal) => refusal.number() as u32,
@@ -40,5 +51,5 @@ pub(crate) fn answered(res: Result<(), HostRefusal>) -> u32
 pub(crate) fn named_site(word: u32) -> u8
     ensures { result ≡ site_of word }
 {
-    if word < 256 { word as u8 } else { 255 }
+    u8::try_from(word).unwrap_or(255)
 }

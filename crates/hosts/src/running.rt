@@ -3,44 +3,41 @@ ghost use Rattle.airs.specs.Boards.{board_lanes};
 ghost use Rattle.floors.specs.Views.{view};
 ghost use Rattle.runs.specs.State.{opened};
 ghost use Rattle.hosts.specs.Answered.{left_by};
-ghost use Rattle.hosts.specs.Calls.{pair_for, state_for};
+ghost use Rattle.hosts.specs.Calls.{pair_in, pair_for, state_for};
 ghost use Rattle.hosts.specs.Sheets.{sheet_network};
 ghost use Rattle.hosts.specs.Replays.{run_reply, performed, answers_over, Replays};
 
 use crate::calls::{in_words, named_call};
 use crate::loading::loaded;
-use crate::pairs::Pair;
 use crate::refused::HostRefusal;
 use crate::refusing::answered;
 use airs::Board;
 use floors::Floor;
-use runs::Call;
+use runs::{Call, Value};
 use sites::SiteMask;
 
-// Answers one call, and what is no call by 100.
-fn answer(floor: &mut Floor<Board>, call: Option<Call>) -> Pair
-    ensures answer { result ≡ pair_for 120 (view board_lanes floor.old) call }
+// Answers one call.
+fn answer(floor: &mut Floor<Board>, call: Option<Call>) -> Result<u32, HostRefusal>
+    ensures answer { pair_in result ≡ pair_for 120 (view board_lanes floor.old) call }
     ensures after { view board_lanes floor.new ≡ state_for 120 (view board_lanes floor.old) call }
 {
-    match call {
-        Some(call) => in_words(floor.perform_one(call)),
-        None => Pair {
-            number: 100,
-            value: 0,
-        },
-    }
+    let value = floor.perform_one(call.ok_or(HostRefusal::NoCall)?)?;
+    Ok(match value {
+        Value::Count(count) => count as u32,
+        Value::Bit(bit) => bit as u32,
+    })
 }
 
-// Performs the first of some calls.
+// Performs the first of some calls. The loop counts: what is written through `chunks_exact_mut` is unknown to the proof.
 fn perform(floor: &mut Floor<Board>, count: usize, calls: &[u32], answers: &mut [u32])
     requires { (3 * count ≤ length calls.now) × (2 * count ≤ length answers.old) }
     ensures { answers.new ≡ answers_over (view board_lanes floor.old) calls.now count answers.old }
 {
     for k in 0..count {
         let call = named_call(calls[3 * k], calls[3 * k + 1], calls[3 * k + 2]);
-        let pair = answer(floor, call);
-        answers[2 * k] = pair.number;
-        answers[2 * k + 1] = pair.value;
+        let (number, value) = in_words(answer(floor, call));
+        answers[2 * k] = number;
+        answers[2 * k + 1] = value;
     }
 }
 

@@ -42,10 +42,7 @@ fn speak(
     ensures answer { answered_by result ≡ answered_by (speak_outcome sheet.now state.now notebook.now words.old) }
     ensures words { words.new ≡ left_by (speak_outcome sheet.now state.now notebook.now words.old) (λ ws. counted_over ws words.old) words.old }
 {
-    if is_short(state, notebook) {
-        return Err(HostRefusal::TooShort);
-    }
-    if words.len() < 121 {
+    if is_short(state, notebook) || words.len() < 121 {
         return Err(HostRefusal::TooShort);
     }
     let plan = loaded(sheet)?;

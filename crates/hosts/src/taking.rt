@@ -6,7 +6,7 @@ ghost use Rattle.hosts.specs.Answered.{answered as answered_by, left_by};
 ghost use Rattle.hosts.specs.Ends.{after_taking, take_on, take_outcome, state_in, kept_over, TakenFits};
 
 use crate::books::{board_of, is_short, notebook_of, write_book};
-use crate::end_words::EndWords;
+use crate::end_words::{EndWords, Tag};
 use crate::loading::loaded;
 use crate::refused::HostRefusal;
 use crate::refusing::answered;
@@ -21,8 +21,8 @@ fn taken_words(taken: Taken) -> EndWords
     ensures { result ≡ after_taking (seen_taken taken) }
 {
     match taken {
-        Taken::Round(round) => EndWords::of_round(round),
-        Taken::Weighing(weighing) => EndWords::of_weighing(weighing),
+        Taken::Round(round) => EndWords::of(Tag::Round, round.saved()),
+        Taken::Weighing(weighing) => EndWords::of(Tag::Weighing, weighing.saved()),
     }
 }
 
@@ -36,15 +36,11 @@ fn take_round(
     ensures answer { result ≡ state_in (take_on (network plan.now) (board_lanes board.now) end book.old.words) }
     ensures book { book.new.words ≡ left_by (take_on (network plan.now) (board_lanes board.now) end book.old.words) (λ s. s.book) book.old.words }
 {
-    let round = end.round()?;
-    match round.take(plan, board, book) {
-        Ok(taken) => Ok(taken_words(taken)),
-        Err(refused) => {
-            let (refusal, round) = refused;
-            let _ = round.give_up();
-            Err(HostRefusal::Engine(refusal))
-        }
-    }
+    let taken = end.round()?.take(plan, board, book).map_err(|(refusal, round)| {
+        let _ = round.give_up();
+        HostRefusal::Engine(refusal)
+    })?;
+    Ok(taken_words(taken))
 }
 
 // Takes a round for the end in a host's words, with what the host has heard.

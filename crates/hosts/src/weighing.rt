@@ -5,7 +5,7 @@ ghost use Rattle.hosts.specs.Answered.{answered as answered_by, left_by};
 ghost use Rattle.hosts.specs.Ends.{after_weighing, weigh_on, weigh_outcome, kept_over, WeighedFits};
 
 use crate::books::{is_short, notebook_of};
-use crate::end_words::EndWords;
+use crate::end_words::{EndWords, Tag};
 use crate::loading::loaded;
 use crate::refused::HostRefusal;
 use crate::refusing::answered;
@@ -19,7 +19,7 @@ fn weighed_words(weighed: Weighed) -> EndWords
     ensures { result ≡ after_weighing (seen_weighed weighed) }
 {
     match weighed {
-        Weighed::Round(round) => EndWords::of_round(round),
+        Weighed::Round(round) => EndWords::of(Tag::Round, round.saved()),
         Weighed::Done(done) => EndWords::of_done(done.bit()),
     }
 }
@@ -28,15 +28,11 @@ fn weighed_words(weighed: Weighed) -> EndWords
 fn weigh_phase(plan: &Plan, end: EndWords, book: &Notebook) -> Result<EndWords, HostRefusal>
     ensures { result ≡ weigh_on (network plan.now) end book.now.words }
 {
-    let weighing = end.weighing()?;
-    match weighing.weigh(plan, book) {
-        Ok(weighed) => Ok(weighed_words(weighed)),
-        Err(refused) => {
-            let (refusal, weighing) = refused;
-            let _ = weighing.give_up();
-            Err(HostRefusal::Engine(refusal))
-        }
-    }
+    let weighed = end.weighing()?.weigh(plan, book).map_err(|(refusal, weighing)| {
+        let _ = weighing.give_up();
+        HostRefusal::Engine(refusal)
+    })?;
+    Ok(weighed_words(weighed))
 }
 
 // Weighs a phase for the end in a host's words.

@@ -1,14 +1,15 @@
--- The searches for a route and, from one fan to the next, for a fan.
-use Rattle.std.proofs.Common.{◌≡◌, ℕ, zero, suc, ◌+◌, ◌-◌, ◌*◌, ◌/◌, ◌%◌, ◌<◌, ◌≤◌, Bool, true, false, eqb, leb, List, length, get_or, take, drop, Some, None, Option, sym, refl, ap, ◌∙◌, subst, ⊎_elim, arith}
-use Rattle.std.proofs.lemmas.Nat.{div-add-mod', mod-mul-add}
-use Rattle.std.proofs.lemmas.List.{get_or-take, get_or-drop}
-use Rattle.std.proofs.lemmas.Bool.{and_parts, and_from, and_left, and_right, eqb-true, ne_eqb, leb-true, le-leb, lt-leb, cases_eq, cond-false}
+-- The places of the fans, counted off from the first fan path, and the first that serves.
+use Rattle.std.proofs.Common.{◌≡◌, ℕ, zero, suc, ◌+◌, ◌-◌, ◌*◌, ◌/◌, ◌%◌, ◌<◌, ◌≤◌, Bool, true, false, eqb, leb, List, length, take, drop, Some, None, Option, MatchOption, sym, refl, ap, ◌∙◌, ⊎_elim, arith}
+use Rattle.std.specs.Option.{option_map}
+use Rattle.std.proofs.Math.Nat.{mul-mod_left, lt_of_mul-lt-mul_right}
+use Rattle.std.proofs.lemmas.Nat.{div-add-mod'}
+use Rattle.std.proofs.lemmas.List.{length-drop, drop-drop}
+use Rattle.std.proofs.lemmas.Bool.{and_parts, and_from, and_left, and_right, eqb-true, eq-eqb, leb-true, le-leb, lt-leb, cases_Bool}
 use Rattle.sites.specs.Positions.{first_from}
-use Rattle.sites.proofs.Positions.{first_hit, first_miss, first_is, first_end}
+use Rattle.sites.proofs.Positions.{first_miss, first_is, no_first, this_first}
 use Rattle.words.specs.Layout.{kind_field}
 use Rattle.sheets.specs.Parts.{word_at, rogue_limit, later}
 use Rattle.sheets.specs.Rows.{first_fan, fan_starts, run_at}
-use Rattle.sheets.proofs.Passed.{next_starts}
 use Rattle.plans.specs.Complete.{serves_fan, fan_here, fan_place}
 
 -- where a test fails at the d positions from i on, the search goes on behind them
@@ -20,29 +21,6 @@ skip p n i (suc d) l h =
     ∙ skip p n (i + 1) d (omega arith) (λ k lo hi. h k (omega arith) (omega arith))
     ∙ ap (λ (x : ℕ). first_from p x (n - x)) e
 
-none_from : (p : ℕ → Bool) (i n : ℕ) → ((k : ℕ) → i ≤ k → p k ≡ false) → first_from p i n ≡ None
-none_from p i zero h = refl
-none_from p i (suc n) h = cond-false (p i) (Some i) (first_from p (i + 1) n) (h i (omega arith)) ∙ none_from p (i + 1) n (λ k lo. h k (omega arith))
-
--- the search among the words after the head
-module _ (ws : List ℕ) (t : ℕ → Bool) (some : 0 < length ws) (r : ℕ)
-    (before : (k : ℕ) → k < r → t (get_or (take (length ws - 1) (drop 1 ws)) k 0) ≡ false) where
-  behind : (k : ℕ) → k < length ws - 1 → get_or (take (length ws - 1) (drop 1 ws)) k 0 ≡ get_or ws (1 + k) 0
-  behind k l = get_or-take (length ws - 1) (drop 1 ws) k 0 l ∙ get_or-drop 1 ws k 0
-
-  past : r ≤ length ws - 1 → first_from (λ i. t (get_or ws i 0)) 1 (length ws - 1) ≡ first_from (λ i. t (get_or ws i 0)) (1 + r) (length ws - (1 + r))
-  past l = skip (λ i. t (get_or ws i 0)) (length ws) 1 r (omega arith)
-      (λ k lo hi. let e : 1 + (k - 1) ≡ k = omega arith in
-      subst (λ (x : ℕ). t (get_or ws x 0) ≡ false) e (ap t (sym (behind (k - 1) (omega arith))) ∙ before (k - 1) (omega arith)))
-
-  pub place_found : r + 1 < length ws → t (get_or (take (length ws - 1) (drop 1 ws)) r 0) ≡ true → Some (r + 1) ≡ first_from (λ i. t (get_or ws i 0)) 1 (length ws - 1)
-  place_found l h =
-      let e : 1 + r ≡ r + 1 = omega arith in
-      sym (past (omega arith) ∙ first_hit (λ i. t (get_or ws i 0)) (1 + r) (length ws) (omega arith) (ap t (sym (behind r (omega arith))) ∙ h) ∙ ap Some e)
-
-  pub place_missing : r ≤ length ws - 1 → length ws ≤ r + 1 → None ≡ first_from (λ i. t (get_or ws i 0)) 1 (length ws - 1)
-  place_missing k l = sym (past k ∙ first_end (λ i. t (get_or ws i 0)) (1 + r) (length ws) (omega arith))
-
 fan_after_head : (ws : List ℕ) (o : Option ℕ) → first_from (λ i. eqb (kind_field (word_at ws i)) 11) 1 (later ws) ≡ o → 0 < length ws →
     (0 < elim o [ Some i ↦ i | None ↦ length ws ]) × (elim o [ Some i ↦ i | None ↦ length ws ] ≤ length ws)
 fan_after_head ws (Some i) e h = let q = first_is (λ i. eqb (kind_field (word_at ws i)) 11) 1 (later ws) i e in (omega (arith, q.1), omega (arith, q.2))
@@ -52,60 +30,61 @@ module _ (ws : List ℕ) where
   within : 0 < length ws → (0 < first_fan ws) × (first_fan ws ≤ length ws)
   within h = fan_after_head ws (first_from (λ i. eqb (kind_field (word_at ws i)) 11) 1 (later ws)) refl h
 
-  -- no fan begins within a fan
-  no_start : (i k : ℕ) → fan_starts ws i ≡ true → i < k → k < i + (rogue_limit ws + 1) → fan_starts ws k ≡ false
-  no_start i k s lo hi =
-      let p = and_parts (leb (first_fan ws) i) (eqb ((i - first_fan ws) % (rogue_limit ws + 1)) 0) s in
-      let l = leb-true (first_fan ws) i p.0 in
+  pub fans_within : 0 < length ws → first_fan ws ≤ length ws
+  fans_within h = (within h).1
+
+module _ (ws : List ℕ) (F v A n : ℕ) (size : n ≡ rogue_limit ws + 1) (some : 0 < length ws) where
+  from_first : first_from (fan_here ws F v A) (first_fan ws) (length ws - first_fan ws) ≡ fan_place ws F v A
+  from_first =
+      let w = within ws some in
+      let e : 1 + (first_fan ws - 1) ≡ first_fan ws = omega (arith, w.0) in
+      sym (skip (fan_here ws F v A) (length ws) 1 (first_fan ws - 1) (omega (arith, w.0, w.1))
+      (λ k lo hi. and_left (fan_starts ws k) _ (and_left (leb (first_fan ws) k) _ (lt-leb (first_fan ws) k (omega (arith, w.0)))))
+      ∙ ap (λ (x : ℕ). first_from (fan_here ws F v A) x (length ws - x)) e)
+
+  -- the words of the fans, and whether the k-th fan serves
+  abbrev pub fans : List ℕ
+  fans = drop (first_fan ws) ws
+
+  abbrev pub serves : ℕ → Bool
+  serves k = serves_fan F v A (take n (drop (k * n) fans))
+
+  many : length fans ≡ length ws - first_fan ws
+  many = length-drop (first_fan ws) ws
+
+  run_is : (k i : ℕ) → i ≡ first_fan ws + k * n → take n (drop (k * n) fans) ≡ run_at ws i
+  run_is k i e = ap (take n) (drop-drop (k * n) (first_fan ws) ws) ∙ ap (λ (x : ℕ). take n (drop x ws)) (sym e) ∙ ap (λ (x : ℕ). take x (drop i ws)) size
+
+  here : (k i : ℕ) → i ≡ first_fan ws + k * n → k * n + n ≤ length fans → serves k ≡ true → fan_here ws F v A i ≡ true
+  here k i e l h =
+      let z : i - first_fan ws ≡ k * n = omega arith in
+      let m : (i - first_fan ws) % (rogue_limit ws + 1) ≡ 0 = ap (λ (x : ℕ). x % (rogue_limit ws + 1)) z ∙ ap (λ (x : ℕ). k * n % x) (sym size) ∙ mul-mod_left k n in
+      and_from (fan_starts ws i) _ (and_from (leb (first_fan ws) i) _ (le-leb (first_fan ws) i (omega arith)) (eq-eqb ((i - first_fan ws) % (rogue_limit ws + 1)) 0 m))
+      (and_from (leb (i + (rogue_limit ws + 1)) (length ws)) _ (le-leb (i + (rogue_limit ws + 1)) (length ws) (omega (arith, many))) (ap (serves_fan F v A) (sym (run_is k i e)) ∙ h))
+
+  not_here : (i : ℕ) → ((k : ℕ) → i ≡ first_fan ws + k * n → k * n + n ≤ length fans → serves k ≡ false) → fan_here ws F v A i ≡ false
+  not_here i h =
+      ⊎_elim
+      (λ s. ⊎_elim
+      (λ l. let p = and_parts (leb (first_fan ws) i) (eqb ((i - first_fan ws) % (rogue_limit ws + 1)) 0) s in
+      let lo = leb-true (first_fan ws) i p.0 in
       let z : (i - first_fan ws) % (rogue_limit ws + 1) ≡ 0 = eqb-true ((i - first_fan ws) % (rogue_limit ws + 1)) 0 p.1 in
-      let q = div-add-mod' (i - first_fan ws) (rogue_limit ws + 1) in
-      let e : k - first_fan ws ≡ (i - first_fan ws) / (rogue_limit ws + 1) * (rogue_limit ws + 1) + (k - i) = omega arith in
-      let r : (k - first_fan ws) % (rogue_limit ws + 1) ≡ k - i = ap (λ (x : ℕ). x % (rogue_limit ws + 1)) e ∙ mod-mul-add ((i - first_fan ws) / (rogue_limit ws + 1)) (rogue_limit ws + 1) (k - i) (omega arith) in
-      and_right (leb (first_fan ws) k) (eqb ((k - first_fan ws) % (rogue_limit ws + 1)) 0) (ne_eqb ((k - first_fan ws) % (rogue_limit ws + 1)) 0 (λ d. omega arith))
+      let m : (i - first_fan ws) % n ≡ 0 = ap (λ (x : ℕ). (i - first_fan ws) % x) size ∙ z in
+      let k : ℕ = (i - first_fan ws) / n in
+      let e : i ≡ first_fan ws + k * n = omega (arith, div-add-mod' (i - first_fan ws) n) in
+      and_right (fan_starts ws i) _ (and_right (leb (i + (rogue_limit ws + 1)) (length ws)) _
+      (ap (serves_fan F v A) (sym (run_is k i e)) ∙ h k e (omega (arith, many, leb-true (i + (rogue_limit ws + 1)) (length ws) l)))))
+      (λ l. and_right (fan_starts ws i) _ (and_left (leb (i + (rogue_limit ws + 1)) (length ws)) _ l))
+      (cases_Bool (leb (i + (rogue_limit ws + 1)) (length ws))))
+      (λ s. and_left (fan_starts ws i) _ s)
+      (cases_Bool (fan_starts ws i))
 
-  module _ (F v A : ℕ) where
-    pub from_first : 0 < length ws → first_from (fan_here ws F v A) (first_fan ws) (length ws - first_fan ws) ≡ fan_place ws F v A
-    from_first h =
-        let w = within h in
-        let e : 1 + (first_fan ws - 1) ≡ first_fan ws = omega (arith, w.0) in
-        sym (skip (fan_here ws F v A) (length ws) 1 (first_fan ws - 1) (omega (arith, w.0, w.1))
-        (λ k lo hi. and_left (fan_starts ws k) _ (and_left (leb (first_fan ws) k) _ (lt-leb (first_fan ws) k (omega (arith, w.0)))))
-        ∙ ap (λ (x : ℕ). first_from (fan_here ws F v A) x (length ws - x)) e)
-
-    at_fan : (i : ℕ) → fan_starts ws i ≡ true → i + (rogue_limit ws + 1) ≤ length ws → serves_fan F v A (run_at ws i) ≡ true → first_from (fan_here ws F v A) i (length ws - i) ≡ Some i
-    at_fan i s l h =
-        first_hit (fan_here ws F v A) i (length ws) (omega arith)
-        (and_from (fan_starts ws i) _ s (and_from (leb (i + (rogue_limit ws + 1)) (length ws)) _ (le-leb (i + (rogue_limit ws + 1)) (length ws) l) h))
-
-    past_fan : (i : ℕ) → fan_starts ws i ≡ true → i + (rogue_limit ws + 1) ≤ length ws → serves_fan F v A (run_at ws i) ≡ false →
-        first_from (fan_here ws F v A) i (length ws - i) ≡ first_from (fan_here ws F v A) (i + (rogue_limit ws + 1)) (length ws - (i + (rogue_limit ws + 1)))
-    past_fan i s l h = skip (fan_here ws F v A) (length ws) i (rogue_limit ws + 1) l
-        (λ k lo hi. ⊎_elim
-        (λ e. subst (λ (x : ℕ). fan_here ws F v A x ≡ false) e (and_right (fan_starts ws i) _ (and_right (leb (i + (rogue_limit ws + 1)) (length ws)) _ h)))
-        (λ e. and_left (fan_starts ws k) _ (no_start i k s (omega arith) hi))
-        (cases_eq i k))
-
-    no_fan_left : (i : ℕ) → length ws < i + (rogue_limit ws + 1) → first_from (fan_here ws F v A) i (length ws - i) ≡ None
-    no_fan_left i l = none_from (fan_here ws F v A) i (length ws - i)
-        (λ k lo. and_right (fan_starts ws k) _ (and_left (leb (k + (rogue_limit ws + 1)) (length ws)) _ (lt-leb (k + (rogue_limit ws + 1)) (length ws) (omega arith))))
-
--- the turns of the search, where m is how many words a fan has
-module _ (ws : List ℕ) (F v A m : ℕ) (size : m ≡ rogue_limit ws + 1) where
-  run_is : (i : ℕ) → take (i + m - i) (drop i ws) ≡ run_at ws i
-  run_is i = let e : i + m - i ≡ rogue_limit ws + 1 = omega arith in ap (λ (k : ℕ). take k (drop i ws)) e
-
-  pub fan_found : (i : ℕ) → fan_starts ws i ≡ true → first_from (fan_here ws F v A) i (length ws - i) ≡ fan_place ws F v A → i < length ws → m ≤ length ws - i →
-      serves_fan F v A (take (i + m - i) (drop i ws)) ≡ true → Some i ≡ fan_place ws F v A
-  fan_found i s e l k h = sym (at_fan ws F v A i s (omega arith) (ap (serves_fan F v A) (sym (run_is i)) ∙ h)) ∙ e
-
-  pub fan_next : (i : ℕ) → fan_starts ws i ≡ true → first_from (fan_here ws F v A) i (length ws - i) ≡ fan_place ws F v A → i < length ws → m ≤ length ws - i →
-      serves_fan F v A (take (i + m - i) (drop i ws)) ≡ false → (fan_starts ws (i + m) ≡ true) × (first_from (fan_here ws F v A) (i + m) (length ws - (i + m)) ≡ fan_place ws F v A)
-  fan_next i s e l k h =
-      let there : i + (rogue_limit ws + 1) ≡ i + m = omega arith in (
-        subst (λ (x : ℕ). fan_starts ws x ≡ true) there (next_starts ws i s),
-        subst (λ (x : ℕ). first_from (fan_here ws F v A) x (length ws - x) ≡ fan_place ws F v A) there
-            (sym (past_fan ws F v A i s (omega arith) (ap (serves_fan F v A) (sym (run_is i)) ∙ h)) ∙ e),
-      )
-
-  pub fan_nowhere : (i : ℕ) → first_from (fan_here ws F v A) i (length ws - i) ≡ fan_place ws F v A → length ws < i + m → None ≡ fan_place ws F v A
-  fan_nowhere i e l = sym (no_fan_left ws F v A i (omega arith)) ∙ e
+  -- the first fan that serves, by its number, stands at the place of the first that serves
+  pub fan_is : (r : Option ℕ) →
+      MatchOption r ((k : ℕ) → k * n + n ≤ length fans → serves k ≡ false) (λ m. (m * n + n ≤ length fans) × (serves m ≡ true) × ((k : ℕ) → k < m → serves k ≡ false)) →
+      option_map (λ k. first_fan ws + k * n) r ≡ fan_place ws F v A
+  fan_is None h = sym (no_first (fan_here ws F v A) (first_fan ws) (length ws - first_fan ws) (λ i lo hi. not_here i (λ k e l. h k l))) ∙ from_first
+  fan_is (Some m) h =
+      sym (this_first (fan_here ws F v A) (first_fan ws) (length ws - first_fan ws) (first_fan ws + m * n) (omega arith) (omega (arith, h.0, many, size)) (here m (first_fan ws + m * n) refl h.0 h.1)
+      (λ i lo hi. not_here i (λ k e l. h.2 k (lt_of_mul-lt-mul_right n (omega arith)))))
+      ∙ from_first

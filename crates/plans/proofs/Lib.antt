@@ -3,6 +3,6 @@ pub mod Judged
 pub mod Ways
 pub mod Lawful
 pub mod Fans
-pub mod Sets
 pub mod Taken
 pub mod Wholes
+pub mod Chains

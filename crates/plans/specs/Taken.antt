@@ -1,6 +1,6 @@
 -- The route and the fan taken, and a sheet read as a network.
-use Rattle.std.specs.Prelude.{ℕ, ◌^◌, Bool, cond, not, ◌&&◌, List, [], map, length, Some, None, Option, ◌==◌, count_ones, nat_le, nat_lt, slice_index}
-use Rattle.sites.specs.Suspects.{suspects}
+use Rattle.std.specs.Prelude.{ℕ, ◌^◌, Bool, cond, not, ◌&&◌, List, [], map, Some, None, Option, ◌==◌, nat_lt}
+pub use Rattle.sites.specs.Suspects.{suspect?, set_at}
 use Rattle.words.specs.Layout.{path_field}
 use Rattle.sheets.specs.Parts.{word_at, site_count, rogue_limit, joined}
 use Rattle.sheets.specs.Rows.{run_at}
@@ -20,14 +20,6 @@ words_at ws None = []
 -- a word is a route from u to v that avoids F: the same as serves_route, kept shut for searches
 unfoldable pub route_here : ℕ → ℕ → ℕ → ℕ → Bool
 route_here F u v w = serves_route F u v w
-
--- a set of at most f of n sites
-abbrev pub suspect? : ℕ → ℕ → ℕ → Bool
-suspect? n f F = nat_lt F (2 ^ n) && nat_le (count_ones F) f
-
--- the k-th suspect set, by size and then by mask; none past the last
-abbrev pub set_at : ℕ → ℕ → ℕ → Option ℕ
-set_at n f k = cond (nat_lt k (length (suspects n f))) (Some (slice_index (suspects n f) k)) None
 
 module _ (ws : List ℕ) where
   -- two different sites below n

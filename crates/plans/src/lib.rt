@@ -1,12 +1,11 @@
 #![tactic(auto)]
 
 mod check;
-mod keepers;
+mod checked;
 mod lookups;
 mod places;
 mod plan;
 mod plans;
-mod suspects;
 
 pub use check::judge;
 pub use plan::Plan;

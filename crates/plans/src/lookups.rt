@@ -1,37 +1,19 @@
-ghost use Rattle.std.specs.Prelude.{◌≡◌, ◌<◌, ◌≤◌, true, [], length, is_some};
+ghost use Rattle.std.specs.Prelude.{◌≡◌, ◌≤◌, true, [], map, length, is_some};
 ghost use Rattle.std.specs.Option.{option_map};
+ghost use Rattle.sites.specs.Keepers.{keepers as table};
+ghost use Rattle.sites.specs.Suspects.{suspects, suspect?, set_at, SuspectsLaw};
 ghost use Rattle.words.specs.Layout.{path_field};
 ghost use Rattle.words.specs.Words.{meaning, sites_of};
-ghost use Rattle.sheets.specs.Parts.{site_count, rogue_limit};
-ghost use Rattle.plans.specs.Complete.{sets, keeping};
-ghost use Rattle.plans.specs.Examples.{pair};
-ghost use Rattle.plans.specs.Plans.{sheet};
-ghost use Rattle.plans.specs.Taken.{are_joined, suspect?, route_taken, route_path, fan_taken, fan_words, set_at};
+ghost use Rattle.theory.specs.Network.{Lawful};
+ghost use Rattle.plans.specs.Plans.{sheet, network, Routes, FansAt};
+ghost use Rattle.plans.specs.Taken.{route_taken, fan_taken, fan_words};
 
-use crate::keepers::keepers_of;
-use crate::places::{first_route, first_serving};
+use crate::checked::Checked;
 use crate::plan::Plan;
-use crate::suspects::{nth_set, set_count};
-use sheets::fans::{first_fan, run_at};
+use sheets::fans::run_at;
 use sheets::parts;
 use sites::SiteMask;
 use words::{Path, PathWord};
-
-// What a plan's sheet tells: the public calls answer the same of the plan's network.
-
-// The sheet of the plan that is built in: two sites, none of them rogue.
-pub(crate) fn pair_words() -> [u32; 6]
-    ensures { result ≡ pair }
-{
-    [
-        0x8000_0020,
-        0x9000_0001,
-        0xA408_0000,
-        0xA440_0000,
-        0xB408_0000,
-        0xB440_0000,
-    ]
-}
 
 // The path of no sites.
 fn no_path() -> Path
@@ -49,114 +31,127 @@ fn path_of(word: u32) -> Path
 }
 
 impl Plan {
-    // The words of the sheet.
-    pub(crate) fn held(&self) -> &[u32]
-        ensures { result.now ≡ sheet self.now }
+    // Its sheet, which passed rows 1 to 6.
+    fn checked(&self) -> Checked<'_>
+        ensures { result.words.now ≡ sheet self.now }
+    {
+        Checked::new(self.words())
+    }
+
+    /// The words of its sheet. The network of every plan is lawful.
+    pub fn words(&self) -> &[u32]
+        ensures value { result.now ≡ sheet self.now }
+        ensures lawful { Lawful (network self.now) }
     {
         &self.words[0..self.len]
     }
 
-    // How many sites the head tells.
-    pub(crate) fn told_sites(&self) -> u8
-        ensures { result ≡ site_count (sheet self.now) }
+    /// How many sites there are: n.
+    #[tactic(auto, unfolding(crate::specs::Plans::network))]
+    pub fn site_count(&self) -> u8
+        ensures value { result ≡ (network self.now).n }
+        ensures least { 2 ≤ result }
+        ensures most { result ≤ 6 }
     {
-        parts::site_count(self.held())
+        parts::site_count(self.words())
     }
 
-    // How many rogues the head allows.
-    pub(crate) fn told_rogues(&self) -> u8
-        ensures { result ≡ rogue_limit (sheet self.now) }
+    /// How many of them may be rogue: f.
+    #[tactic(auto, unfolding(crate::specs::Plans::network))]
+    pub fn rogue_limit(&self) -> u8
+        ensures value { result ≡ (network self.now).f }
+        ensures most { result ≤ 2 }
     {
-        parts::rogue_limit(self.held())
+        parts::rogue_limit(self.words())
     }
 
-    // Whether an edge joins two sites below n.
-    pub(crate) fn has_edge(&self, a: u8, b: u8) -> bool
-        ensures { result ≡ are_joined (sheet self.now) a b }
+    /// Whether an edge joins two sites; false where one is not below n.
+    #[tactic(auto, unfolding(crate::specs::Plans::network))]
+    pub fn are_joined(&self, a: u8, b: u8) -> bool
+        ensures { result ≡ (network self.now).joined a b }
     {
-        let n = self.told_sites();
-        a < n && b < n && parts::are_joined(self.held(), a, b)
+        let n = self.site_count();
+        a < n && b < n && parts::are_joined(self.words(), a, b)
     }
 
-    // How many suspect sets there are.
-    pub(crate) fn count_of_sets(&self) -> usize
-        requires { (site_count (sheet self.now) ≤ 6) × (rogue_limit (sheet self.now) ≤ 2) }
-        ensures { result ≡ length (sets (sheet self.now)) }
+    /// How many suspect sets there are: the sets of at most f of the n sites.
+    pub fn suspect_count(&self) -> usize
+        ensures value { result ≡ length (suspects (network self.now).n (network self.now).f) }
+        ensures law { SuspectsLaw (network self.now).n (network self.now).f }
     {
-        set_count(self.told_sites() as usize, self.told_rogues() as usize)
+        self.checked().size.suspect_count()
     }
 
-    // The k-th of them.
-    pub(crate) fn set_at(&self, k: usize) -> Option<SiteMask>
-        requires { (site_count (sheet self.now) ≤ 6) × (rogue_limit (sheet self.now) ≤ 2) }
-        ensures { option_map (λ m. m.bits) result ≡ set_at (site_count (sheet self.now)) (rogue_limit (sheet self.now)) k }
+    /// The k-th suspect set, by size and then by mask; none past the last.
+    #[tactic(auto, unfolding(crate::specs::Plans::network))]
+    pub fn suspect(&self, k: usize) -> Option<SiteMask>
+        ensures { option_map (λ m. m.bits) result ≡ set_at (network self.now).n (network self.now).f k }
     {
-        if k >= self.count_of_sets() {
-            return None;
-        }
-        let bits = nth_set(self.told_sites() as usize, self.told_rogues() as usize, k);
-        Some(SiteMask { bits })
+        self.checked().size.suspect(k)
     }
 
-    // Whether a set is a suspect set.
-    pub(crate) fn has_suspect(&self, set: SiteMask) -> bool
-        ensures { result ≡ suspect? (site_count (sheet self.now)) (rogue_limit (sheet self.now)) set.bits }
+    /// Whether a set is a suspect set.
+    #[tactic(auto, unfolding(crate::specs::Plans::network))]
+    pub fn is_suspect(&self, set: SiteMask) -> bool
+        ensures { result ≡ suspect? (network self.now).n (network self.now).f set.bits }
     {
-        set.is_below(self.told_sites()) && set.count() <= self.told_rogues() as u32
+        self.checked().size.is_suspect(set)
     }
 
-    // The sites that keep their bits.
-    pub(crate) fn sites_keeping(&self, set: SiteMask, zeros: SiteMask) -> SiteMask
-        requires { site_count (sheet self.now) ≤ 6 }
-        ensures { result.bits ≡ keeping (sheet self.now) set.bits zeros.bits }
+    /// The sites that keep their bits when a phase is weighed, where a set is suspected and the sites of
+    /// another set have bit 0.
+    #[tactic(auto, unfolding(crate::specs::Plans::network))]
+    pub fn keepers(&self, set: SiteMask, zeros: SiteMask) -> SiteMask
+        ensures { result.bits ≡ table (network self.now).n (network self.now).f set.bits zeros.bits }
     {
-        keepers_of(self.told_sites(), self.told_rogues(), set, zeros)
+        self.checked().size.keepers(set, zeros)
     }
 
-    // The place of the route taken.
-    pub(crate) fn place_of_route(&self, set: SiteMask, from: u8, to: u8) -> Option<usize>
+    /// The place of the route taken between two sites where a set is suspected; none where the set is no
+    /// suspect set or these are not two different sites below n.
+    pub fn find_route(&self, set: SiteMask, from: u8, to: u8) -> Option<usize>
         ensures { result ≡ route_taken (sheet self.now) set.bits from to }
     {
-        let n = self.told_sites();
-        if !self.has_suspect(set) || from >= n || to >= n || from == to {
+        let sheet = self.checked();
+        let n = sheet.size.sites;
+        if !sheet.size.is_suspect(set) || from >= n || to >= n || from == to {
             return None;
         }
-        first_route(self.held(), set, from, to)
+        sheet.find_route(set, from, to)
     }
 
-    // The place of the fan taken.
-    pub(crate) fn place_of_fan(&self, set: SiteMask, at: u8, among: SiteMask) -> Option<usize>
-        requires { 0 < length (sheet self.now) }
+    /// The place of the fan taken at a site where a set is suspected, with its sources among some sites;
+    /// none where no fan serves, the set is no suspect set, or a site is not below n.
+    pub fn find_fan(&self, set: SiteMask, at: u8, among: SiteMask) -> Option<usize>
         ensures { result ≡ fan_taken (sheet self.now) set.bits at among.bits }
     {
-        let n = self.told_sites();
-        if !self.has_suspect(set) || at >= n || !among.is_below(n) {
+        let sheet = self.checked();
+        let n = sheet.size.sites;
+        if !sheet.size.is_suspect(set) || at >= n || !among.is_below(n) {
             return None;
         }
-        let words = self.held();
-        first_serving(words, first_fan(words), set, at, among)
+        sheet.fans().find(set, at, among)
     }
 
-    // The path of the route taken.
-    pub(crate) fn path_of_route(&self, set: SiteMask, from: u8, to: u8) -> Path
-        ensures { sites_of result ≡ route_path (sheet self.now) set.bits from to }
+    /// The path of the route taken between two sites where a set is suspected; the empty path where
+    /// `find_route` finds none, which it does not for a suspect set and two different sites below n.
+    pub fn route(&self, set: SiteMask, from: u8, to: u8) -> Path
+        ensures value { sites_of result ≡ (network self.now).route set.bits from to }
+        ensures way { Routes (network self.now) set.bits from to (sites_of result) }
     {
-        let words = self.held();
-        match self.place_of_route(set, from, to) {
-            Some(place) => path_of(words[place]),
-            None => no_path(),
-        }
+        self.find_route(set, from, to)
+            .map_or_else(no_path, |place| path_of(self.words()[place]))
     }
 
-    // The words of the fan taken.
-    pub(crate) fn words_of_fan(&self, set: SiteMask, at: u8, among: SiteMask) -> &[u32]
-        requires { 0 < length (sheet self.now) }
-        ensures { result.now ≡ fan_words (sheet self.now) set.bits at among.bits }
+    /// The f + 1 words of the fan taken at a site where a set is suspected, with its sources among some
+    /// sites; no words where `find_fan` finds none, which it does not where those sites are the keepers of
+    /// a suspect set and the site is not one of them.
+    pub fn fan(&self, set: SiteMask, at: u8, among: SiteMask) -> &[u32]
+        ensures words { result.now ≡ fan_words (sheet self.now) set.bits at among.bits }
+        ensures value { map path_field result.now ≡ (network self.now).fan set.bits at among.bits }
+        ensures fan { FansAt (network self.now) set.bits at among.bits (map path_field result.now) }
     {
-        let words = self.held();
-        match self.place_of_fan(set, at, among) {
-            Some(place) => run_at(words, place),
-            None => &words[0..0],
-        }
+        self.find_fan(set, at, among)
+            .map_or(&[], |place| run_at(self.words(), place))
     }
 }

@@ -1,63 +1,20 @@
-ghost use Rattle.std.specs.Prelude.{◌≡◌, ℕ, ◌+◌, ◌^◌, ◌<◌, ◌≤◌, true, false, ◌&&◌, length, slice_index};
-ghost use Rattle.sites.specs.Sets.{in_set};
-ghost use Rattle.sheets.specs.Parts.{source, avoids as does_avoid};
-ghost use Rattle.sheets.specs.Rows.{first_fan};
+ghost use Rattle.std.specs.Prelude.{◌≡◌, ◌<◌, ◌&&◌, Ok, length};
+ghost use Rattle.sheets.specs.Refusals.{well_formed};
 ghost use Rattle.plans.specs.Taken.{route_here};
-ghost use Rattle.plans.specs.Complete.{serves_route, serves_fan, route_place, fan_place};
+ghost use Rattle.plans.specs.Complete.{serves_fan, route_place, fan_place};
 
-use sheets::parts::{avoids, end_of, rogue_limit, source_of};
-use sites::SiteMask;
+use crate::checked::{Checked, Fans};
+use sheets::fans::first_fan;
+use sheets::parts::{avoids, end_of, rogue_limit, site_count, source_of};
+use sites::{NetworkSize, SiteMask};
 use words::fields::kind_of;
 
 // Whether a word is a route between two sites that avoids a set.
+#[tactic(auto, unfolding(crate::specs::Taken::route_here))]
 fn is_route(word: u32, set: SiteMask, from: u8, to: u8) -> bool
-    ensures { result ≡ serves_route set.bits from to word }
-{
-    kind_of(word) == 10 && source_of(word) == from && end_of(word) == to && avoids(set, word)
-}
-
-// The same, for the search.
-fn is_here(word: u32, set: SiteMask, from: u8, to: u8) -> bool
     ensures { result ≡ route_here set.bits from to word }
 {
-    is_route(word, set, from, to)
-}
-
-// The first place at which a word is a route between two sites that avoids a set; the number of words where
-// there is none.
-fn seek_route(words: &[u32], set: SiteMask, from: u8, to: u8) -> usize
-    ensures within { result ≤ length words.now }
-    ensures before { (k : ℕ) → k < result → route_here set.bits from to (slice_index words.now k) ≡ false }
-    ensures found { result < length words.now → route_here set.bits from to (slice_index words.now result) ≡ true }
-{
-    for i in 0..words.len() {
-        if is_here(words[i], set, from, to) {
-            return i;
-        }
-    }
-    words.len()
-}
-
-// The place of the first route between two sites that avoids a set.
-pub(crate) fn first_route(words: &[u32], set: SiteMask, from: u8, to: u8) -> Option<usize>
-    ensures { result ≡ route_place words.now set.bits from to }
-{
-    if words.len() == 0 {
-        return None;
-    }
-    let place = seek_route(&words[1..words.len()], set, from, to) + 1;
-    if place < words.len() {
-        Some(place)
-    } else {
-        None
-    }
-}
-
-// Whether a path begins in a set and avoids another set.
-fn begins_among(word: u32, set: SiteMask, among: SiteMask) -> bool
-    ensures { result ≡ (in_set among.bits (source word) && does_avoid set.bits word) }
-{
-    among.contains(source_of(word)) && avoids(set, word)
+    kind_of(word) == 10 && source_of(word) == from && end_of(word) == to && avoids(set, word)
 }
 
 // Whether the paths of a run end at a site, begin in a set and avoid another set.
@@ -65,44 +22,55 @@ fn is_serving(run: &[u32], set: SiteMask, at: u8, among: SiteMask) -> bool
     requires { 0 < length run.now }
     ensures { result ≡ serves_fan set.bits at among.bits run.now }
 {
-    if end_of(run[0]) != at {
-        return false;
-    }
-    for k in 0..run.len() {
-        if !begins_among(run[k], set, among) {
-            return false;
-        }
-    }
-    true
+    end_of(run[0]) == at
+        && run.iter().all(|word| among.contains(source_of(*word)) && avoids(set, *word))
 }
 
-// The place behind the fan at a place: each fan is tried, none is passed over.
-fn behind(place: usize, size: usize) -> usize
-    requires { place + size < 2 ^ 64 }
-    ensures { result ≡ place + size }
-{
-    place + size
+impl<'a> Checked<'a> {
+    // The words of a sheet that passed rows 1 to 6.
+    pub(crate) fn new(words: &'a [u32]) -> Checked<'a>
+        requires { well_formed words.now ≡ Ok tt }
+        ensures { result.words.now ≡ words.now }
+    {
+        Checked {
+            words,
+            size: NetworkSize {
+                sites: site_count(words),
+                rogues: rogue_limit(words),
+            },
+        }
+    }
+
+    // The place of the first route between two sites that avoids a set.
+    pub(crate) fn find_route(&self, set: SiteMask, from: u8, to: u8) -> Option<usize>
+        ensures { result ≡ route_place self.now.words.now set.bits from to }
+    {
+        (1..self.words.len()).find(|i| is_route(self.words[*i], set, from, to))
+    }
+
+    // Its fans.
+    pub(crate) fn fans(&self) -> Fans<'a>
+        ensures { result.sheet.words.now ≡ self.now.words.now }
+    {
+        Fans {
+            sheet: *self,
+            start: first_fan(self.words),
+        }
+    }
 }
 
-// The place of the first fan at a site that begins in a set and avoids another set. Fans stand one behind
-// the other from the first fan path on, so that only every (f + 1)-th word is tried.
-pub(crate) fn first_serving(
-    words: &[u32],
-    start: usize,
-    set: SiteMask,
-    at: u8,
-    among: SiteMask,
-) -> Option<usize>
-    requires { (start ≡ first_fan words.now) × (0 < length words.now) }
-    ensures { result ≡ fan_place words.now set.bits at among.bits }
-{
-    let size = rogue_limit(words) as usize + 1;
-    let mut i = start;
-    while i < words.len() && words.len() - i >= size {
-        if is_serving(&words[i..i + size], set, at, among) {
-            return Some(i);
-        }
-        i = behind(i, size);
+impl<'a> Fans<'a> {
+    // The place of the first fan at a site that begins in a set and avoids another set. Only every (f + 1)-th
+    // word is tried.
+    #[tactic(auto, using(crate::proofs::Fans::fans_within))]
+    pub(crate) fn find(&self, set: SiteMask, at: u8, among: SiteMask) -> Option<usize>
+        ensures { result ≡ fan_place self.now.sheet.words.now set.bits at among.bits }
+    {
+        let start = self.start;
+        let size = self.sheet.size.rogues as usize + 1;
+        let fans = &self.sheet.words[start..];
+        fans.chunks_exact(size)
+            .position(|run| is_serving(run, set, at, among))
+            .map(|k| start + k * size)
     }
-    None
 }

@@ -1,96 +1,105 @@
 // The single end: one site on its own, over the console's own air.
-use crate::arguments;
-use crate::reply::Reply;
-use crate::session::AnyAir;
-use crate::text::{byte, trimmed};
+use crate::fault::Fault;
+use crate::line::Line;
+use crate::text::{Bid, Words, trimmed};
+use airs::Air;
 use plans::Plan;
 use rounds::Notebook;
-use single_end::{Numbers, Round, Taken, Weighed, Weighing};
+use single_end::{Round, Taken, Weighed, Weighing};
+use std::fmt;
+use std::fmt::Write;
 
-/// Where the end in hand stands. The console keeps its numbers, as a host in another language does, and makes a state of
-/// them at each call.
+/// A command on the single end.
 #[derive(Clone, Copy)]
-pub enum Stage {
-    NotBegun,
-    InRound(Numbers),
-    InWeighing(Numbers),
+pub(crate) enum EndCommand {
+    /// `begin S BIT`
+    Begin { site: u8, bit: bool },
+    /// `espeak`
+    Speak,
+    /// `etake`
+    Take,
+    /// `eweigh`
+    Weigh,
+    /// `ebook`
+    Book,
+    /// `ebookset I W`
+    Set { place: usize, word: u32 },
+}
+
+/// Where an end stands, with the state that its next call moves.
+enum Stage {
+    InRound(Round),
+    InWeighing(Weighing),
     Finished(bool),
 }
 
-/// The end in hand and its notebook.
-#[derive(Drop)]
-pub struct End {
-    stage: Stage,
+impl Stage {
+    // Lets the state go. It is moved by its calls and cannot be dropped, so one of them gives it up.
+    fn give_up(self) {
+        match self {
+            Stage::InRound(round) => {
+                let _ = round.give_up();
+            }
+            Stage::InWeighing(weighing) => {
+                let _ = weighing.give_up();
+            }
+            Stage::Finished(_) => {}
+        }
+    }
+}
+
+impl From<Taken> for Stage {
+    fn from(taken: Taken) -> Stage {
+        match taken {
+            Taken::Round(round) => Stage::InRound(round),
+            Taken::Weighing(weighing) => Stage::InWeighing(weighing),
+        }
+    }
+}
+
+impl From<Weighed> for Stage {
+    fn from(weighed: Weighed) -> Stage {
+        match weighed {
+            Weighed::Round(round) => Stage::InRound(round),
+            Weighed::Done(done) => Stage::Finished(done.bit()),
+        }
+    }
+}
+
+impl fmt::Display for Stage {
+    fn fmt<W: fmt::Write>(&self, f: &mut fmt::Formatter<W>) -> fmt::Result {
+        match self {
+            Stage::InRound(state) => {
+                let (phase, round) = (state.phase(), state.round());
+                write!(f, "round {phase} {round}  # phase {phase}, round {round}")
+            }
+            Stage::InWeighing(state) => {
+                let phase = state.phase();
+                write!(
+                    f,
+                    "weighing {phase}  # all rounds are taken of phase {phase}"
+                )
+            }
+            Stage::Finished(bit) => {
+                let (number, bid) = (u8::from(*bit), Bid(*bit));
+                write!(f, "done {number}  # the last phase is over: {bid}")
+            }
+        }
+    }
+}
+
+/// The end in hand, if one is begun, and its notebook.
+pub(crate) struct End {
+    stage: Option<Stage>,
     notebook: Notebook,
 }
 
-// The call does not fit the state.
-fn no_fit(out: &mut Reply) {
-    out.push("state");
-    out.plain("the call does not fit the end's state");
-}
-
-// Where the end stands now.
-fn show(stage: Stage, out: &mut Reply) {
-    match stage {
-        Stage::NotBegun => no_fit(out),
-        Stage::InRound(numbers) => show_round(numbers, out),
-        Stage::InWeighing(numbers) => {
-            out.push("ok weighing ");
-            out.number(numbers.phase);
-            out.plain_with("all rounds are taken of phase ", numbers.phase);
+impl Drop for End {
+    fn drop(self) {
+        let End { stage, notebook: _ } = self;
+        if let Some(stage) = stage {
+            stage.give_up();
         }
-        Stage::Finished(bit) => show_bit(bit, out),
-    }
-}
-
-fn show_round(numbers: Numbers, out: &mut Reply) {
-    out.push("ok round ");
-    out.number(numbers.phase);
-    out.push(" ");
-    out.number(numbers.round);
-    out.plain_with("phase ", numbers.phase);
-    out.push(", round ");
-    out.number(numbers.round);
-}
-
-fn show_bit(bit: bool, out: &mut Reply) {
-    out.push("ok done ");
-    out.number(bit as usize);
-    if bit {
-        out.plain("the last phase is over: held");
-    } else {
-        out.plain("the last phase is over: live");
-    }
-}
-
-// The round in hand, if the end is in one.
-fn round_of(stage: Stage) -> Option<Round> {
-    match stage {
-        Stage::InRound(numbers) => Round::restored(numbers),
-        _ => None,
-    }
-}
-
-// The end in hand, if it is to weigh.
-fn weighing_of(stage: Stage) -> Option<Weighing> {
-    match stage {
-        Stage::InWeighing(numbers) => Weighing::restored(numbers),
-        _ => None,
-    }
-}
-
-fn after_take(taken: Taken) -> Stage {
-    match taken {
-        Taken::Round(round) => Stage::InRound(round.saved()),
-        Taken::Weighing(weighing) => Stage::InWeighing(weighing.saved()),
-    }
-}
-
-fn after_weigh(weighed: Weighed) -> Stage {
-    match weighed {
-        Weighed::Round(round) => Stage::InRound(round.saved()),
-        Weighed::Done(done) => Stage::Finished(done.bit()),
     }
 }
 
@@ -98,109 +107,137 @@ impl End {
     /// No end, and an empty notebook.
     pub(crate) fn new() -> End {
         End {
-            stage: Stage::NotBegun,
+            stage: None,
             notebook: Notebook::new(),
         }
     }
 
-    /// `begin S BIT`
-    pub(crate) fn begin(&mut self, plan: &Plan, tokens: &[&str], out: &mut Reply) {
-        let Some((site, bit)) = arguments::two_numbers(tokens) else {
-            return out.error("begin takes a site and a bit");
-        };
-        if bit > 1 {
-            return out.error("begin takes a site and a bit");
-        }
-        match Round::begin(plan, byte(site), bit == 1) {
-            Ok(round) => {
-                self.stage = Stage::InRound(round.saved());
-                show(self.stage, out);
-            }
-            Err(refusal) => out.refused(refusal),
+    // Puts a stage in place of the one before.
+    fn enter(&mut self, stage: Stage) {
+        if let Some(before) = self.stage.replace(stage) {
+            before.give_up();
         }
     }
 
-    /// `espeak`
-    pub(crate) fn speak(&self, plan: &Plan, air: &mut AnyAir, tokens: &[&str], out: &mut Reply) {
-        if tokens.len() != 0 {
-            return out.error("espeak takes no arguments");
-        }
-        let Some(round) = round_of(self.stage) else {
-            return no_fit(out);
+    // Goes on to a stage and writes where the end then stands.
+    fn go_on(&mut self, stage: Stage, reply: &mut String) -> Result<(), Fault> {
+        let written = write!(reply, "ok {stage}");
+        self.enter(stage);
+        Ok(written?)
+    }
+
+    // Stays in a stage where a call failed.
+    fn stay(&mut self, stage: Stage, fault: Fault) -> Result<(), Fault> {
+        self.enter(stage);
+        Err(fault)
+    }
+
+    // The end has put all that it owes in this round.
+    fn speak<A: Air>(&self, plan: &Plan, air: &mut A, reply: &mut String) -> Result<(), Fault> {
+        let Some(Stage::InRound(round)) = &self.stage else {
+            return Err(Fault::NoFit);
         };
-        let said = air.speak(&round, plan, &self.notebook);
-        let _ = round.give_up();
-        match said {
-            Ok(count) => {
-                out.count(count);
-                out.plain("words put");
-            }
-            Err(refusal) => out.refused(refusal),
+        let count = round.speak(plan, air, &self.notebook)?;
+        write!(reply, "ok {count}  # words put")?;
+        Ok(())
+    }
+
+    // The end hears its neighbours.
+    fn take<A: Air>(&mut self, plan: &Plan, air: &A, reply: &mut String) -> Result<(), Fault> {
+        match self.stage.take() {
+            Some(Stage::InRound(round)) => match round.take(plan, air, &mut self.notebook) {
+                Ok(taken) => self.go_on(Stage::from(taken), reply),
+                Err((refusal, round)) => self.stay(Stage::InRound(round), Fault::from(refusal)),
+            },
+            Some(stage) => self.stay(stage, Fault::NoFit),
+            None => Err(Fault::NoFit),
         }
     }
 
-    /// `etake`
-    pub(crate) fn take(&mut self, plan: &Plan, air: &AnyAir, tokens: &[&str], out: &mut Reply) {
-        if tokens.len() != 0 {
-            return out.error("etake takes no arguments");
-        }
-        let Some(round) = round_of(self.stage) else {
-            return no_fit(out);
-        };
-        match air.take(round, plan, &mut self.notebook) {
-            Ok(taken) => {
-                self.stage = after_take(taken);
-                show(self.stage, out);
-            }
-            Err(refused) => {
-                let (refusal, back) = refused;
-                let _ = back.give_up();
-                out.refused(refusal);
-            }
+    // The end weighs.
+    fn weigh(&mut self, plan: &Plan, reply: &mut String) -> Result<(), Fault> {
+        match self.stage.take() {
+            Some(Stage::InWeighing(weighing)) => match weighing.weigh(plan, &self.notebook) {
+                Ok(weighed) => self.go_on(Stage::from(weighed), reply),
+                Err((refusal, weighing)) => {
+                    self.stay(Stage::InWeighing(weighing), Fault::from(refusal))
+                }
+            },
+            Some(stage) => self.stay(stage, Fault::NoFit),
+            None => Err(Fault::NoFit),
         }
     }
 
-    /// `eweigh`
-    pub(crate) fn weigh(&mut self, plan: &Plan, tokens: &[&str], out: &mut Reply) {
-        if tokens.len() != 0 {
-            return out.error("eweigh takes no arguments");
-        }
-        let Some(weighing) = weighing_of(self.stage) else {
-            return no_fit(out);
-        };
-        match weighing.weigh(plan, &self.notebook) {
-            Ok(weighed) => {
-                self.stage = after_weigh(weighed);
-                show(self.stage, out);
-            }
-            Err(refused) => {
-                let (refusal, back) = refused;
-                let _ = back.give_up();
-                out.refused(refusal);
-            }
-        }
-    }
-
-    /// `ebook`
-    pub(crate) fn book(&self, tokens: &[&str], out: &mut Reply) {
-        if tokens.len() != 0 {
-            return out.error("ebook takes no arguments");
-        }
+    // The words of the notebook.
+    fn book(&self, reply: &mut String) -> Result<(), Fault> {
         let words = trimmed(self.notebook.words());
-        out.count(words.len());
-        out.words(words);
-        out.plain("the notebook of the single end");
+        let count = words.len();
+        let words = Words { mark: ' ', words };
+        write!(reply, "ok {count}{words}  # the notebook of the single end")?;
+        Ok(())
     }
 
-    /// `ebookset I W`
-    pub(crate) fn set(&mut self, tokens: &[&str], out: &mut Reply) {
-        let Some((place, word)) = arguments::site_and_word(tokens) else {
-            return out.error("ebookset takes a place and a word");
+    // Another word at a place of the notebook.
+    fn set(&mut self, place: usize, word: u32, reply: &mut String) -> Result<(), Fault> {
+        if !self.notebook.set_word(place, word) {
+            return Err(Fault::NoCommand("a notebook has the places 0 to 324"));
+        }
+        write!(reply, "ok  # the word stands at that place of the notebook")?;
+        Ok(())
+    }
+}
+
+impl EndCommand {
+    /// The command that a line is; nothing where there is none of its name here.
+    pub(crate) fn read(line: Line<'_>) -> Result<Option<EndCommand>, Fault> {
+        let command = match line.name {
+            "begin" => {
+                let (site, bit) = line.two("begin takes a site and a bit")?;
+                EndCommand::Begin { site, bit }
+            }
+            "espeak" => {
+                line.none("espeak takes no arguments")?;
+                EndCommand::Speak
+            }
+            "etake" => {
+                line.none("etake takes no arguments")?;
+                EndCommand::Take
+            }
+            "eweigh" => {
+                line.none("eweigh takes no arguments")?;
+                EndCommand::Weigh
+            }
+            "ebook" => {
+                line.none("ebook takes no arguments")?;
+                EndCommand::Book
+            }
+            "ebookset" => {
+                let (place, word) = line.two("ebookset takes a place and a word")?;
+                EndCommand::Set { place, word }
+            }
+            _ => return Ok(None),
         };
-        if self.notebook.set_word(place as usize, word) {
-            out.ok("the word stands at that place of the notebook");
-        } else {
-            out.error("a notebook has the places 0 to 324");
+        Ok(Some(command))
+    }
+
+    /// Performs the command on an end, with the plan in hand and an air, and writes the answer.
+    pub(crate) fn perform<A: Air>(
+        self,
+        plan: &Plan,
+        air: &mut A,
+        end: &mut End,
+        reply: &mut String,
+    ) -> Result<(), Fault> {
+        match self {
+            EndCommand::Begin { site, bit } => {
+                let round = Round::begin(plan, site, bit)?;
+                end.go_on(Stage::InRound(round), reply)
+            }
+            EndCommand::Speak => end.speak(plan, air, reply),
+            EndCommand::Take => end.take(plan, &*air, reply),
+            EndCommand::Weigh => end.weigh(plan, reply),
+            EndCommand::Book => end.book(reply),
+            EndCommand::Set { place, word } => end.set(place, word, reply),
         }
     }
 }

@@ -2,20 +2,19 @@
 #![tactic(auto)]
 
 mod air_commands;
-mod any_floor;
-mod arguments;
-mod commands;
+mod any_air;
+mod command;
 mod end_commands;
+mod fault;
 mod floor_commands;
+mod line;
 mod numbers;
 mod path_commands;
-mod reply;
 mod session;
 mod sheet_commands;
 mod text;
 
-use commands::answer;
-use reply::Reply;
+use command::answer;
 use session::Session;
 use std::io::{BufRead, BufReader};
 
@@ -23,12 +22,10 @@ fn run(rt: &HostRuntime) -> anyhow::Result<()> {
     let heap = rt.alloc();
     let mut session = Session::new();
     for line in BufReader::new(heap, rt.stdin())?.split(heap, b'\n') {
-        let bytes = line?;
-        let mut reply = Reply::new(heap);
-        answer(heap, &mut session, bytes.as_slice(), &mut reply);
-        let text = reply.finish()?;
-        if !text.is_empty() {
-            println!(rt; "{text}")?;
+        let line = line?;
+        let reply = answer(heap, &mut session, line.as_slice())?;
+        if !reply.is_empty() {
+            println!(rt; "{reply}")?;
         }
     }
     Ok(())

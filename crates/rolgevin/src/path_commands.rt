@@ -1,110 +1,105 @@
 // Path words: what they say, and how they are written.
-use crate::reply::Reply;
-use crate::text::byte;
-use crate::{arguments, numbers};
+use crate::fault::Fault;
+use crate::line::{Argument, Line};
+use crate::text::Dashed;
 use sites::Refusal;
-use std::alloc::{AllocError, Global};
+use std::alloc::Global;
+use std::fmt;
+use std::fmt::Write;
 use words::{Kind, Path, PathWord};
+
+/// A command on path words.
+#[derive(Drop)]
+pub(crate) enum PathCommand {
+    /// `read W`
+    Read(u32),
+    /// `write KIND TAIL S..`
+    Write { kind: u8, tail: u8, sites: Vec<u8> },
+}
+
+// What a path word says, in plain words.
+#[derive(Clone, Copy)]
+struct Described(PathWord);
 
 // The kind in plain words.
 fn name(kind: Kind) -> &'static str {
     match kind {
-        Kind::Flood => "flood word: ",
-        Kind::Route => "route: ",
-        Kind::Fan => "fan path: ",
+        Kind::Flood => "flood word",
+        Kind::Route => "route",
+        Kind::Fan => "fan path",
     }
 }
 
-// A path in plain words.
-fn describe_path(sites: &[u8], out: &mut Reply) {
-    if sites.len() == 0 {
-        out.push("the empty path");
-    } else {
-        out.push("the path ");
-        out.dashed(sites);
+impl fmt::Display for Described {
+    fn fmt<W: fmt::Write>(&self, f: &mut fmt::Formatter<W>) -> fmt::Result {
+        let word = self.0;
+        write!(f, "{}: the ", name(word.kind()))?;
+        let path = word.path();
+        match path.sites() {
+            [] => write!(f, "empty path")?,
+            sites => write!(f, "path {}", Dashed(sites))?,
+        }
+        if word.kind() == Kind::Flood {
+            write!(f, " with bit {}", word.tail())?;
+        }
+        Ok(())
     }
 }
 
-// What a path word says, in plain words.
-fn describe(word: PathWord, out: &mut Reply) {
+// What a word says, part by part.
+fn read(word: u32, reply: &mut String) -> Result<(), Fault> {
+    let word = PathWord::read(word)?;
     let path = word.path();
-    out.plain(name(word.kind()));
-    describe_path(path.sites(), out);
-    if let Kind::Flood = word.kind() {
-        out.numbered(" with bit ", word.tail() as usize);
-    }
-}
-
-// A path word by its parts.
-fn show(word: PathWord, out: &mut Reply) {
-    let path = word.path();
-    out.count(word.kind().number() as usize);
-    out.numbered(" ", word.tail() as usize);
-    out.bracketed(path.sites());
-    describe(word, out);
-}
-
-/// `read W`
-pub(crate) fn read(tokens: &[&str], out: &mut Reply) {
-    if tokens.len() != 1 {
-        return out.error("read takes one word");
-    }
-    let Some(word) = arguments::word(tokens) else {
-        return out.error("a word is up to eight hexadecimal digits");
-    };
-    match PathWord::read(word) {
-        Ok(path_word) => show(path_word, out),
-        Err(refusal) => out.refused(refusal),
-    }
+    let (kind, tail, sites) = (word.kind().number(), word.tail(), Dashed(path.sites()));
+    write!(reply, "ok {kind} {tail} [{sites}]  # {}", Described(word))?;
+    Ok(())
 }
 
 // The word of a kind's number, a tail and some sites.
-fn word_of(kind: u32, tail: u8, sites: &[u8]) -> Result<PathWord, Refusal> {
-    let Some(kind) = Kind::named(kind) else {
-        return Err(Refusal::Path);
-    };
-    match Path::new(sites) {
-        Ok(path) => PathWord::new(kind, path, tail),
-        Err(refusal) => Err(refusal),
-    }
+fn write(kind: u8, tail: u8, sites: &[u8], reply: &mut String) -> Result<(), Fault> {
+    let kind = Kind::named(u32::from(kind)).ok_or(Refusal::Path)?;
+    let word = PathWord::new(kind, Path::new(sites)?, tail)?;
+    write!(reply, "ok {:08X}  # {}", word.write(), Described(word))?;
+    Ok(())
 }
 
-// Some numbers as sites.
-fn sites_of(heap: Global, numbers: &[u32]) -> Result<Vec<u8>, AllocError> {
-    let mut sites = Vec::new(heap);
-    for number in numbers {
-        sites.push(byte(*number))?;
-    }
-    Ok(sites)
-}
-
-// The word of a kind's number, a tail and some sites, written and in plain words.
-fn written(kind: u32, tail: u32, sites: &[u8], out: &mut Reply) {
-    match word_of(kind, byte(tail), sites) {
-        Ok(path_word) => {
-            out.worded("ok ", path_word.write());
-            describe(path_word, out);
+impl PathCommand {
+    /// The command that a line is; nothing where there is none of its name here.
+    pub(crate) fn read(heap: Global, line: Line<'_>) -> Result<Option<PathCommand>, Fault> {
+        match line.name {
+            "read" => PathCommand::one_word(line).map(Some),
+            "write" => PathCommand::numbers(heap, line).map(Some),
+            _ => Ok(None),
         }
-        Err(refusal) => out.refused(refusal),
     }
-}
 
-// The same for numbers in a row.
-fn write_numbers(heap: Global, numbers: &[u32], out: &mut Reply) {
-    if numbers.len() < 2 {
-        return out.error("write takes a kind, a tail and sites, in decimal");
+    // `read` with its word.
+    fn one_word(line: Line<'_>) -> Result<PathCommand, Fault> {
+        let [token] = line.tokens else {
+            return Err(Fault::NoCommand("read takes one word"));
+        };
+        let word = u32::read(token).ok_or(Fault::NoCommand(
+            "a word is up to eight hexadecimal digits",
+        ))?;
+        Ok(PathCommand::Read(word))
     }
-    match sites_of(heap, &numbers[2..numbers.len()]) {
-        Ok(sites) => written(numbers[0], numbers[1], sites.as_slice(), out),
-        Err(_) => out.cut(),
-    }
-}
 
-/// `write KIND TAIL S..`
-pub(crate) fn write(heap: Global, tokens: &[&str], out: &mut Reply) {
-    match numbers::decimal_list(heap, tokens) {
-        Ok(Some(numbers)) => write_numbers(heap, numbers.as_slice(), out),
-        Ok(None) => out.error("write takes a kind, a tail and sites, in decimal"),
-        Err(_) => out.cut(),
+    // `write` with its numbers.
+    fn numbers(heap: Global, line: Line<'_>) -> Result<PathCommand, Fault> {
+        let takes = "write takes a kind, a tail and sites, in decimal";
+        let numbers = line.all::<u8>(heap, takes)?;
+        let [kind, tail, sites @ ..] = numbers.as_slice() else {
+            return Err(Fault::NoCommand(takes));
+        };
+        let (kind, tail, sites) = (*kind, *tail, sites.to_vec(heap)?);
+        Ok(PathCommand::Write { kind, tail, sites })
+    }
+
+    /// Performs the command and writes the answer.
+    pub(crate) fn perform(self, reply: &mut String) -> Result<(), Fault> {
+        match self {
+            PathCommand::Read(word) => read(word, reply),
+            PathCommand::Write { kind, tail, sites } => write(kind, tail, sites.as_slice(), reply),
+        }
     }
 }

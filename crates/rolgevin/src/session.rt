@@ -1,98 +1,18 @@
 // What the console has in hand.
-use crate::any_floor::AnyFloor;
+use crate::any_air::{AirKind, AnyAir, AnyFloor};
+use crate::command::Command;
 use crate::end_commands::End;
-use airs::{Air, Board, Strip};
+use crate::fault::Fault;
 use plans::Plan;
-use rounds::Notebook;
-use single_end::{Round, Taken};
-use sites::Refusal;
-
-/// An air of one kind or the other: only the one chosen is used.
-#[derive(Drop)]
-pub struct AnyAir {
-    board: Board,
-    strip: Strip,
-    is_strip: bool,
-}
-
-impl AnyAir {
-    /// An empty strip, or an empty board.
-    pub(crate) fn new(is_strip: bool) -> AnyAir {
-        AnyAir {
-            board: Board::new(),
-            strip: Strip::new(),
-            is_strip,
-        }
-    }
-
-    pub(crate) fn put(&mut self, site: u8, word: u32) -> Result<usize, Refusal> {
-        if self.is_strip {
-            self.strip.put(site, word)
-        } else {
-            self.board.put(site, word)
-        }
-    }
-
-    pub(crate) fn count(&self, site: u8) -> usize {
-        if self.is_strip {
-            self.strip.count(site)
-        } else {
-            self.board.count(site)
-        }
-    }
-
-    pub(crate) fn at(&self, site: u8, position: usize) -> Option<u32> {
-        if self.is_strip {
-            self.strip.at(site, position)
-        } else {
-            self.board.at(site, position)
-        }
-    }
-
-    /// Lets an end put what it owes.
-    pub(crate) fn speak(
-        &mut self,
-        round: &Round,
-        plan: &Plan,
-        notebook: &Notebook,
-    ) -> Result<usize, Refusal> {
-        if self.is_strip {
-            round.speak(plan, &mut self.strip, notebook)
-        } else {
-            round.speak(plan, &mut self.board, notebook)
-        }
-    }
-
-    /// Lets an end take the round.
-    pub(crate) fn take(
-        &self,
-        round: Round,
-        plan: &Plan,
-        notebook: &mut Notebook,
-    ) -> Result<Taken, (Refusal, Round)> {
-        if self.is_strip {
-            round.take(plan, &self.strip, notebook)
-        } else {
-            round.take(plan, &self.board, notebook)
-        }
-    }
-
-    pub(crate) fn clear(&mut self) {
-        if self.is_strip {
-            self.strip.clear();
-        } else {
-            self.board.clear();
-        }
-    }
-}
+use std::fmt::Write;
 
 /// A plan, a floor, an air of the console's own, and a single end.
 #[derive(Drop)]
-pub struct Session {
-    pub plan: Plan,
-    pub floor: AnyFloor,
-    pub air: AnyAir,
-    pub end: End,
+pub(crate) struct Session {
+    plan: Plan,
+    floor: AnyFloor,
+    air: AnyAir,
+    end: End,
 }
 
 impl Session {
@@ -101,9 +21,57 @@ impl Session {
     pub(crate) fn new() -> Session {
         Session {
             plan: Plan::built_in(),
-            floor: AnyFloor::new(false),
-            air: AnyAir::new(false),
+            floor: AnyFloor::new(AirKind::Board),
+            air: AnyAir::new(AirKind::Board),
             end: End::new(),
         }
+    }
+
+    /// Performs a command and writes the answer.
+    pub(crate) fn perform(&mut self, command: Command, reply: &mut String) -> Result<(), Fault> {
+        match command {
+            Command::Reset => self.reset(reply),
+            Command::NewFloor(kind) => self.renew_floor(kind, reply),
+            Command::NewAir(kind) => self.renew_air(kind, reply),
+            Command::Path(command) => command.perform(reply),
+            Command::Sheet(command) => command.perform(&mut self.plan, reply),
+            Command::Floor(command) => self.floor.perform(command, &self.plan, reply),
+            Command::Air(command) => self.air.perform(command, reply),
+            Command::End(command) => self
+                .air
+                .perform_end(command, &self.plan, &mut self.end, reply),
+        }
+    }
+
+    // Back to the start.
+    fn reset(&mut self, reply: &mut String) -> Result<(), Fault> {
+        *self = Session::new();
+        write!(reply, "ok  # back at the start")?;
+        Ok(())
+    }
+
+    // A new floor in place of the one in hand.
+    fn renew_floor(&mut self, kind: AirKind, reply: &mut String) -> Result<(), Fault> {
+        self.floor = AnyFloor::new(kind);
+        let air = match kind {
+            AirKind::Board => "a board",
+            AirKind::Strip => "a strip",
+        };
+        write!(
+            reply,
+            "ok  # a new floor over {air}, open on the built-in plan"
+        )?;
+        Ok(())
+    }
+
+    // A fresh air in place of the one in hand.
+    fn renew_air(&mut self, kind: AirKind, reply: &mut String) -> Result<(), Fault> {
+        self.air = AnyAir::new(kind);
+        let air = match kind {
+            AirKind::Board => "board: lanes of 120 words",
+            AirKind::Strip => "strip: lanes of 160 words",
+        };
+        write!(reply, "ok  # a fresh {air}")?;
+        Ok(())
     }
 }

@@ -1,200 +1,183 @@
 // Sheets and the plan in hand.
-use crate::reply::Reply;
-use crate::text::byte;
-use crate::{arguments, numbers, text};
+use crate::fault::Fault;
+use crate::line::Line;
+use crate::text::{Dashed, Words};
 use plans::Plan;
-use sheets::{Item, Reader, SheetRefusal};
-use sites::{Refusal, SiteMask};
+use sheets::{Item, Reader};
+use sites::SiteMask;
 use std::alloc::Global;
+use std::fmt;
+use std::fmt::Write;
+use words::PathWord;
 
-// `refused` with the number and the place, and what they mean.
-fn refused(fault: SheetRefusal, out: &mut Reply) {
-    out.numbered("refused ", fault.refusal.number() as usize);
-    out.numbered(" ", fault.place);
-    faulty(fault, text::meaning(fault.refusal), out);
-}
-
-// What a refusal means, with its place.
-fn faulty(fault: SheetRefusal, words: &str, out: &mut Reply) {
-    match fault.refusal {
-        Refusal::SheetSize => out.plain(words),
-        Refusal::NoRoute => masked(words, fault.place, out),
-        Refusal::NoFan => masked(words, fault.place, out),
-        _ => {
-            out.plain_with("word ", fault.place);
-            out.push(": ");
-            out.push(words);
-        }
-    }
-}
-
-// Plain words with a mask.
-fn masked(words: &str, mask: usize, out: &mut Reply) {
-    out.plain(words);
-    out.push(", mask ");
-    out.hex(mask);
-}
-
-// A plan in plain words.
-fn loaded(plan: &Plan, out: &mut Reply) {
-    out.push("ok");
-    out.plain_with("a plan for ", plan.site_count() as usize);
-    out.numbered(" sites, of which ", plan.rogue_limit() as usize);
-    out.push(" may be rogue");
-}
-
-/// `sheet W..`
-pub(crate) fn sheet(heap: Global, plan: &mut Plan, tokens: &[&str], out: &mut Reply) {
-    match numbers::hex_list(heap, tokens) {
-        Ok(Some(words)) => load(plan, words.as_slice(), out),
-        Ok(None) => out.error("sheet takes words of up to eight hexadecimal digits"),
-        Err(_) => out.cut(),
-    }
+/// A command on sheets and the plan in hand.
+#[derive(Drop)]
+pub(crate) enum SheetCommand {
+    /// `sheet W..`
+    Load(Vec<u32>),
+    /// `plan`
+    List,
+    /// `items W..`
+    Items(Vec<u32>),
+    /// `route F U V`
+    Route {
+        set: SiteMask,
+        from: u8,
+        to: u8,
+    },
+    /// `fan F V A`
+    Fan {
+        set: SiteMask,
+        at: u8,
+        among: SiteMask,
+    },
 }
 
 // A sheet in place of the plan in hand.
-fn load(plan: &mut Plan, words: &[u32], out: &mut Reply) {
-    match plan.reload(words) {
-        Ok(()) => loaded(plan, out),
-        Err(fault) => refused(fault, out),
-    }
+fn load(words: &[u32], plan: &mut Plan, reply: &mut String) -> Result<(), Fault> {
+    plan.reload(words)?;
+    let (sites, rogues) = (plan.site_count(), plan.rogue_limit());
+    write!(
+        reply,
+        "ok  # a plan for {sites} sites, of which {rogues} may be rogue"
+    )?;
+    Ok(())
 }
 
-/// `plan`
-pub(crate) fn list(plan: &Plan, tokens: &[&str], out: &mut Reply) {
-    if tokens.len() != 0 {
-        return out.error("plan takes no arguments");
-    }
+// The words of the plan in hand.
+fn list(plan: &Plan, reply: &mut String) -> Result<(), Fault> {
     let words = plan.words();
-    out.count(words.len());
-    out.words(words);
-    out.plain("the words of the plan in hand");
+    let count = words.len();
+    let words = Words { mark: ' ', words };
+    write!(reply, "ok {count}{words}  # the words of the plan in hand")?;
+    Ok(())
 }
 
-/// `items W..`
-pub(crate) fn items(heap: Global, tokens: &[&str], out: &mut Reply) {
-    match numbers::hex_list(heap, tokens) {
-        Ok(Some(words)) => open(words.as_slice(), out),
-        Ok(None) => out.error("items takes words of up to eight hexadecimal digits"),
-        Err(_) => out.cut(),
+// An item of a sheet, with its place.
+#[derive(Clone, Copy)]
+struct Placed<'a>(Item<'a>);
+
+impl fmt::Display for Placed<'_> {
+    fn fmt<W: fmt::Write>(&self, f: &mut fmt::Formatter<W>) -> fmt::Result {
+        match self.0 {
+            Item::Head {
+                place,
+                sites,
+                rogues,
+            } => write!(f, "head@{place}:{sites},{rogues}"),
+            Item::Edge { place, low, high } => write!(f, "edge@{place}:{low}-{high}"),
+            Item::Route { place, word } => write!(f, "route@{place}:{word:08X}"),
+            Item::Fan { place, run } => {
+                write!(f, "fan@{place}:")?;
+                let Some((first, words)) = run.split_first() else {
+                    return Ok(());
+                };
+                write!(f, "{first:08X}{}", Words { mark: '+', words })
+            }
+        }
     }
 }
 
 // The items of a sheet.
-fn open(words: &[u32], out: &mut Reply) {
-    match Reader::open(words) {
-        Ok(reader) => all_items(reader, words.len(), out),
-        Err(fault) => refused(fault, out),
-    }
-}
-
-// Each item of a sheet of so many words.
-fn all_items(start: Reader<'_>, len: usize, out: &mut Reply) {
-    let mut reader = start;
+fn items(words: &[u32], reply: &mut String) -> Result<(), Fault> {
+    let mut reader = Reader::open(words)?;
     let mut count: usize = 0;
-    out.push("ok");
-    for turn in 0..len {
+    write!(reply, "ok")?;
+    for turn in 0..words.len() {
         let Some(item) = reader.next() else {
             break;
         };
         count = turn + 1;
-        show(item, out);
+        write!(reply, " {}", Placed(item))?;
     }
-    out.numbered("  # ", count);
-    out.push(" items");
-}
-
-// The place of an item of a kind.
-fn placed(kind: &str, place: usize, out: &mut Reply) {
-    out.numbered(kind, place);
-    out.push(":");
-}
-
-// Two numbers with a mark between them.
-fn two(first: u8, mark: &str, second: u8, out: &mut Reply) {
-    out.number(first as usize);
-    out.numbered(mark, second as usize);
-}
-
-fn show(item: Item<'_>, out: &mut Reply) {
-    match item {
-        Item::Head {
-            place,
-            sites,
-            rogues,
-        } => {
-            placed(" head@", place, out);
-            two(sites, ",", rogues, out);
-        }
-        Item::Edge { place, low, high } => {
-            placed(" edge@", place, out);
-            two(low, "-", high, out);
-        }
-        Item::Route { place, word } => {
-            placed(" route@", place, out);
-            out.word(word);
-        }
-        Item::Fan { place, run } => {
-            placed(" fan@", place, out);
-            out.joined(run);
-        }
-    }
-}
-
-// The path that a word names.
-fn path(word: u32, out: &mut Reply) {
-    for i in 0..words::fields::count_of(word) {
-        if i > 0 {
-            out.push("-");
-        }
-        out.number(words::fields::site_of(word, i) as usize);
-    }
-}
-
-/// `route F U V`
-pub(crate) fn route(plan: &Plan, tokens: &[&str], out: &mut Reply) {
-    match arguments::mask_and_two_sites(tokens) {
-        Some((bits, from, to)) => route_between(plan, SiteMask { bits }, byte(from), byte(to), out),
-        None => out.error("route takes a mask and two sites"),
-    }
+    write!(reply, "  # {count} items")?;
+    Ok(())
 }
 
 // The route taken between two sites.
-fn route_between(plan: &Plan, set: SiteMask, from: u8, to: u8, out: &mut Reply) {
+fn route(set: SiteMask, from: u8, to: u8, plan: &Plan, reply: &mut String) -> Result<(), Fault> {
     let Some(place) = plan.find_route(set, from, to) else {
-        return out.none("no route is named for these");
+        write!(reply, "ok none  # no route is named for these")?;
+        return Ok(());
     };
     let path = plan.route(set, from, to);
-    out.count(place);
-    out.push(" ");
-    out.dashed(path.sites());
-    out.plain_with("the route taken from ", from as usize);
-    out.numbered(" to ", to as usize);
+    let sites = Dashed(path.sites());
+    write!(
+        reply,
+        "ok {place} {sites}  # the route taken from {from} to {to}"
+    )?;
+    Ok(())
 }
 
-/// `fan F V A`
-pub(crate) fn fan(plan: &Plan, tokens: &[&str], out: &mut Reply) {
-    match arguments::mask_site_and_mask(tokens) {
-        Some((bits, at, among)) => fan_at(
-            plan,
-            SiteMask { bits },
-            byte(at),
-            SiteMask { bits: among },
-            out,
-        ),
-        None => out.error("fan takes a mask, a site and a mask"),
+// The paths of a fan in the plan in hand, a space before each. All words of a plan's fans are lawful.
+#[derive(Clone, Copy)]
+struct Paths<'a>(&'a [u32]);
+
+impl fmt::Display for Paths<'_> {
+    fn fmt<W: fmt::Write>(&self, f: &mut fmt::Formatter<W>) -> fmt::Result {
+        for word in self.0 {
+            if let Ok(word) = PathWord::read(*word) {
+                write!(f, " {}", Dashed(word.path().sites()))?;
+            }
+        }
+        Ok(())
     }
 }
 
 // The fan taken at a site.
-fn fan_at(plan: &Plan, set: SiteMask, at: u8, among: SiteMask, out: &mut Reply) {
+fn fan(
+    set: SiteMask,
+    at: u8,
+    among: SiteMask,
+    plan: &Plan,
+    reply: &mut String,
+) -> Result<(), Fault> {
     let Some(place) = plan.find_fan(set, at, among) else {
-        return out.none("no fan is named for these");
+        write!(reply, "ok none  # no fan is named for these")?;
+        return Ok(());
     };
-    out.count(place);
-    for word in plan.fan(set, at, among) {
-        out.push(" ");
-        path(*word, out);
+    let paths = Paths(plan.fan(set, at, among));
+    write!(reply, "ok {place}{paths}  # the fan taken at {at}")?;
+    Ok(())
+}
+
+impl SheetCommand {
+    /// The command that a line is; nothing where there is none of its name here.
+    pub(crate) fn read(heap: Global, line: Line<'_>) -> Result<Option<SheetCommand>, Fault> {
+        let command = match line.name {
+            "sheet" => SheetCommand::Load(line.all(
+                heap,
+                "sheet takes words of up to eight hexadecimal digits",
+            )?),
+            "plan" => {
+                line.none("plan takes no arguments")?;
+                SheetCommand::List
+            }
+            "items" => SheetCommand::Items(line.all(
+                heap,
+                "items takes words of up to eight hexadecimal digits",
+            )?),
+            "route" => {
+                let (set, from, to) = line.three("route takes a mask and two sites")?;
+                SheetCommand::Route { set, from, to }
+            }
+            "fan" => {
+                let (set, at, among) = line.three("fan takes a mask, a site and a mask")?;
+                SheetCommand::Fan { set, at, among }
+            }
+            _ => return Ok(None),
+        };
+        Ok(Some(command))
     }
-    out.plain_with("the fan taken at ", at as usize);
+
+    /// Performs the command with the plan in hand and writes the answer.
+    pub(crate) fn perform(self, plan: &mut Plan, reply: &mut String) -> Result<(), Fault> {
+        match self {
+            SheetCommand::Load(words) => load(words.as_slice(), plan, reply),
+            SheetCommand::List => list(plan, reply),
+            SheetCommand::Items(words) => items(words.as_slice(), reply),
+            SheetCommand::Route { set, from, to } => route(set, from, to, plan, reply),
+            SheetCommand::Fan { set, at, among } => fan(set, at, among, plan, reply),
+        }
+    }
 }

@@ -1,48 +1,88 @@
-// Plain words, and small things of answers.
-use sites::Refusal;
+// Small things of answers, and how they print.
+use airs::Air;
+use std::fmt;
 
-/// A refusal in plain words.
-pub(crate) fn meaning(refusal: Refusal) -> &'static str {
-    match refusal {
-        Refusal::SheetSize => "a sheet has 1 to 1,024 words",
-        Refusal::Head => "the first word is no lawful head",
-        Refusal::Kind =>
-            "a later word is no edge, route or fan path, or its kind is below the kind before",
-        Refusal::Edge => "an edge has bad bits or sites, or does not ascend",
-        Refusal::Path => "not a lawful path, or a site not below n, or a missing edge",
-        Refusal::Fan => "a fan is short, its ends differ, or its paths share another site",
-        Refusal::NoRoute => "no route for this suspect set",
-        Refusal::NoFan => "no fan for this suspect set",
-        Refusal::MaskSite => "a mask names a site not below n",
-        Refusal::ManyRogues => "more than f rogues",
-        Refusal::OtherPlan => "the plan's n or f is not the one at the start",
-        Refusal::NoSite => "no such site",
-        Refusal::SoundSite => "the site is sound",
-        Refusal::RogueSite => "the site is a rogue",
-        Refusal::Over => "the last phase is over",
-        Refusal::Spoken => "the site has spoken in this round",
-        Refusal::LaneFull => "the lane cannot take what is put",
-        Refusal::Unspoken => "a sound site has not spoken",
-        Refusal::Undecided => "the last phase is not over",
-        Refusal::Unheard => "the path is not expected there, or not yet heard",
+/// A bit as a bid: `held` or `live`.
+#[derive(Clone, Copy)]
+pub(crate) struct Bid(pub bool);
+
+impl fmt::Display for Bid {
+    fn fmt<W: fmt::Write>(&self, f: &mut fmt::Formatter<W>) -> fmt::Result {
+        let bid = if self.0 { "held" } else { "live" };
+        write!(f, "{bid}")
     }
 }
 
-/// A number as a byte, and 255 for a larger one: no kind, tail or site is as large.
-pub(crate) fn byte(number: u32) -> u8 {
-    number.min(255) as u8
+/// Some sites with dashes between them.
+#[derive(Clone, Copy)]
+pub(crate) struct Dashed<'a>(pub &'a [u8]);
+
+impl fmt::Display for Dashed<'_> {
+    fn fmt<W: fmt::Write>(&self, f: &mut fmt::Formatter<W>) -> fmt::Result {
+        let Some((first, others)) = self.0.split_first() else {
+            return Ok(());
+        };
+        write!(f, "{first}")?;
+        for site in others {
+            write!(f, "-{site}")?;
+        }
+        Ok(())
+    }
+}
+
+/// Some words, each of eight hexadecimal digits, with a mark before each.
+#[derive(Clone, Copy)]
+pub(crate) struct Words<'a> {
+    pub mark: char,
+    pub words: &'a [u32],
+}
+
+impl fmt::Display for Words<'_> {
+    fn fmt<W: fmt::Write>(&self, f: &mut fmt::Formatter<W>) -> fmt::Result {
+        let mark = self.mark;
+        for word in self.words {
+            write!(f, "{mark}{word:08X}")?;
+        }
+        Ok(())
+    }
+}
+
+// The words of a site's lane, a space before each.
+#[derive(Drop)]
+struct Lane<'a, A: Air> {
+    air: &'a A,
+    site: u8,
+}
+
+impl<A: Air> fmt::Display for Lane<'_, A> {
+    fn fmt<W: fmt::Write>(&self, f: &mut fmt::Formatter<W>) -> fmt::Result {
+        let Lane { air, site } = *self;
+        for word in (0..air.count(site)).filter_map(|position| air.at(site, position)) {
+            write!(f, " {word:08X}")?;
+        }
+        Ok(())
+    }
+}
+
+/// The words of all six lanes.
+#[derive(Drop)]
+pub(crate) struct Lanes<'a, A: Air>(pub &'a A);
+
+impl<A: Air> fmt::Display for Lanes<'_, A> {
+    fn fmt<W: fmt::Write>(&self, f: &mut fmt::Formatter<W>) -> fmt::Result {
+        let air = self.0;
+        for site in 0..6u8 {
+            let mark = if site > 0 { " |" } else { "" };
+            write!(f, "{mark} {site}:{}", Lane { air, site })?;
+        }
+        Ok(())
+    }
 }
 
 /// Some words without the zeros at their end.
 pub(crate) fn trimmed(words: &[u32]) -> &[u32] {
-    let mut len = 0;
-    for (i, word) in words.iter().enumerate() {
-        if *word != 0 {
-            len = i + 1;
-        }
+    match words.iter().rposition(|word| *word != 0) {
+        Some(last) => &words[..last + 1],
+        None => &[],
     }
-    if len > words.len() {
-        return words;
-    }
-    &words[0..len]
 }

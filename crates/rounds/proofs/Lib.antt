@@ -5,5 +5,4 @@ pub mod Notes
 pub mod Owed
 pub mod Weighs
 pub mod Alike
-pub mod OwedByBits
 pub mod Spoken

@@ -1,6 +1,7 @@
 -- What hearing a round leaves in a notebook, and reading it by levels.
-use Rattle.std.proofs.Common.{◌≡◌, ℕ, zero, suc, ◌+◌, ◌-◌, ◌^◌, ◌<◌, ◌≤◌, Bool, true, false, cond, List, [], ◌∷◌, ◌++◌, map, length, get_or, take, drop, set, sym, refl, ap, ◌∙◌, subst, append_assoc, arith}
-use Rattle.std.proofs.lemmas.List.{take-append-drop, take_more_set, drop-set-lt, drop_more, length-set, map-append, length-map, drop_at, take_all, get_or-map}
+use Rattle.std.proofs.Common.{◌≡◌, ℕ, zero, suc, ◌+◌, ◌-◌, ◌^◌, ◌<◌, Bool, true, false, cond, List, [], ◌∷◌, ◌++◌, map, length, get_or, take, drop, set, sym, refl, ap, ◌∙◌, subst, append_assoc, append-nil, length-append, arith}
+use Rattle.std.proofs.Math.Seq.{set-append_seam}
+use Rattle.std.proofs.lemmas.List.{take-append-drop, take_more, drop_more, length-take-le, length-drop, map-append, length-map, drop_at, take_all, get_or-map}
 use Rattle.sites.specs.Lists.{In, front, final}
 use Rattle.sites.proofs.Lists.{map_same, get_or_in, in_right}
 use Rattle.airs.specs.Lanes.{Lanes, lane}
@@ -14,40 +15,41 @@ use Rattle.tables.specs.Entries.{path_word, entry_of, no_entry}
 use Rattle.tables.specs.Tables.{table_network, table_level, table_paths}
 use Rattle.tables.specs.declared.expected_path.ExpectedPath.{ExpectedPath}
 use Rattle.tables.specs.declared.table.PathTable.{PathTable}
-use Rattle.tables.proofs.TableFacts.{table_carried, counts_rise, few}
-use Rattle.rounds.specs.Ears.{note_of, notes_from}
+use Rattle.tables.proofs.TableFacts.{table_carried, counts_rise}
+use Rattle.rounds.specs.Ears.{note_of}
 use Rattle.rounds.proofs.Paths.{front_carried, final_small, word_small}
-
-split : (n i : ℕ) → i < n → n - i ≡ suc (n - (i + 1))
-split n i h = omega arith
 
 -- ---- one word after the other
 
-module _ (ls : Lanes) (es : List ExpectedPath) where
-  pub notes_step : (i b x : ℕ) (book whole : List ℕ) → i < b → x ≡ note_of ls (get_or es i no_entry) → notes_from ls es i (b - i) book ≡ whole →
-      notes_from ls es (i + 1) (b - (i + 1)) (set book i x) ≡ whole
-  notes_step i b x book whole h e inv =
-      ap (λ y. notes_from ls es (i + 1) (b - (i + 1)) (set book i y)) e ∙ sym (ap (λ m. notes_from ls es i m book) (split b i h)) ∙ inv
+-- a notebook in which words from a place on were noted, for the first i of some paths
+abbrev pub noted_up : Lanes → ℕ → List ExpectedPath → ℕ → List ℕ → List ℕ
+noted_up ls start ps i book = (take start book ++ map (note_of ls) (take i ps)) ++ drop (start + i) book
 
-  pub notes_end : (i b : ℕ) (book : List ℕ) → b ≤ i → notes_from ls es i (b - i) book ≡ book
-  notes_end i b book h = let z : b - i ≡ 0 = omega arith in rw z
+pub noted_none : (ls : Lanes) (start : ℕ) (ps : List ExpectedPath) (book : List ℕ) → book ≡ noted_up ls start ps 0 book
+noted_none ls start ps book =
+    let z : start ≡ start + 0 = omega arith in
+    sym (take-append-drop start book)
+    ∙ ap (λ j. take start book ++ drop j book) z
+    ∙ sym (ap (λ t. t ++ drop (start + 0) book) (append-nil (take start book)))
 
-  notes_placed : (m i : ℕ) (book : List ℕ) → i + m ≤ length book → i + m ≤ length es →
-      notes_from ls es i m book ≡ take i book ++ (map (note_of ls) (take m (drop i es)) ++ drop (i + length (map (note_of ls) (take m (drop i es)))) book)
-  notes_placed zero i book h l =
-      let z : i + 0 ≡ i = omega arith in
-      sym (take-append-drop i book) ∙ sym (ap (λ j. take i book ++ drop j book) z)
-  notes_placed (suc m) i book h l =
-      let x : ℕ = note_of ls (get_or es i no_entry) in
-      let rest : List ℕ = map (note_of ls) (take m (drop (i + 1) es)) in
-      let here : i < length book = omega arith in
-      let a : (i + 1) + length rest ≡ i + suc (length rest) = omega arith in
-      notes_placed m (i + 1) (set book i x) (omega (arith, length-set book i x)) (omega arith)
-      ∙ ap (λ t. t ++ (rest ++ drop ((i + 1) + length rest) (set book i x))) (take_more_set book i x here)
-      ∙ ap (λ t. (take i book ++ x ∷ []) ++ (rest ++ t)) (drop-set-lt ((i + 1) + length rest) book i x (omega arith))
-      ∙ append_assoc (take i book) (x ∷ []) (rest ++ drop ((i + 1) + length rest) book)
-      ∙ ap (λ j. take i book ++ (x ∷ (rest ++ drop j book))) a
-      ∙ sym (ap (λ (t : List ExpectedPath). take i book ++ (map (note_of ls) (take (suc m) t) ++ drop (i + length (map (note_of ls) (take (suc m) t))) book)) (drop_more es i no_entry (omega arith)))
+pub noted_more : (ls : Lanes) (start i x : ℕ) (ps : List ExpectedPath) (book : List ℕ) → i < length ps → start + i < length book → x ≡ note_of ls (get_or ps i no_entry) →
+    set (noted_up ls start ps i book) (start + i) x ≡ noted_up ls start ps (i + 1) book
+noted_more ls start i x ps book lt within is =
+    let front : List ℕ = take start book in
+    let so_far : List ℕ = map (note_of ls) (take i ps) in
+    let n : length (front ++ so_far) ≡ start + i =
+    length-append front so_far ∙ omega (arith, length-take-le start book (omega arith), length-map (take i ps) (note_of ls), length-take-le i ps (omega arith)) in
+    let rest : List ℕ = drop (start + i + 1) book in
+    let next : start + i + 1 ≡ start + (i + 1) = omega arith in
+    ap (λ t. set ((front ++ so_far) ++ t) (start + i) x) (drop_more book (start + i) 0 within)
+    ∙ ap (λ k. set ((front ++ so_far) ++ (get_or book (start + i) 0 ∷ rest)) k x) (sym n)
+    ∙ set-append_seam (front ++ so_far) (get_or book (start + i) 0) rest x
+    ∙ sym (append_assoc (front ++ so_far) (x ∷ []) rest)
+    ∙ ap (λ t. t ++ rest) (append_assoc front so_far (x ∷ []))
+    ∙ ap (λ y. (front ++ (so_far ++ y ∷ [])) ++ rest) is
+    ∙ ap (λ t. (front ++ t) ++ rest) (sym (map-append (note_of ls) (take i ps) (get_or ps i no_entry ∷ [])))
+    ∙ ap (λ (t : List ExpectedPath). (front ++ map (note_of ls) t) ++ rest) (sym (take_more ps i no_entry lt))
+    ∙ ap (λ j. (front ++ map (note_of ls) (take (i + 1) ps)) ++ drop j book) next
 
 -- ---- the words noted
 
@@ -84,31 +86,30 @@ module _ (t : PathTable) (r : ℕ) where
   level_carried : (p : List ℕ) → In p (table_level t r) → Carried p
   level_carried p i = table_carried t r p (subst (In p) (sym (paths_split (table_network t) t.site r)) (in_right (table_paths t (r - 1)) (table_level t r) p i))
 
-  -- what is noted for a round
-  pub round_noted : (ls : Lanes) (es : List ExpectedPath) (start : ℕ) (book : List ℕ) → length book ≡ 325 → es ≡ map entry_of (table_paths t r) → start ≡ length (table_paths t (r - 1)) →
-      notes_from ls es start (length es - start) book ≡ note_round (table_network t) t.site r (heard_in (lane ls)) book
-  unfolding note_round
-  round_noted ls es start book long is at =
+  -- the entries of a level stand behind those of the levels before
+  pub level_entries : (es : List ExpectedPath) (start : ℕ) → es ≡ map entry_of (table_paths t r) → start ≡ length (table_paths t (r - 1)) → drop start es ≡ map entry_of (table_level t r)
+  level_entries es start is at =
       let before : List (List ℕ) = table_paths t (r - 1) in
+      ap (drop start) (is ∙ ap (map entry_of) (paths_split (table_network t) t.site r) ∙ map-append entry_of before (table_level t r))
+      ∙ drop_at (map entry_of before) (map entry_of (table_level t r)) start (length-map before entry_of ∙ sym at)
+
+  -- the same, as the slice of them
+  pub level_slice : (es : List ExpectedPath) (start : ℕ) → es ≡ map entry_of (table_paths t r) → start ≡ length (table_paths t (r - 1)) → take (length es - start) (drop start es) ≡ map entry_of (table_level t r)
+  level_slice es start is at = take_all (length es - start) (drop start es) (omega (arith, length-drop start es)) ∙ level_entries es start is at
+
+  -- what is noted for a round
+  pub round_noted : (ls : Lanes) (ps : List ExpectedPath) (start i : ℕ) (book : List ℕ) → ps ≡ map entry_of (table_level t r) → start ≡ length (table_paths t (r - 1)) → i ≡ length ps →
+      noted_up ls start ps i book ≡ note_round (table_network t) t.site r (heard_in (lane ls)) book
+  unfolding note_round
+  round_noted ls ps start i book is at end =
       let level : List (List ℕ) = table_level t r in
-      let rise = counts_rise t r in
-      let all : length es ≡ length (table_paths t r) = ap length is ∙ length-map (table_paths t r) entry_of in
-      let most = few t r in
-      let fits : start + (length es - start) ≤ length book = omega arith in
-      let inside : start + (length es - start) ≤ length es = omega arith in
-      let rest : take (length es - start) (drop start es) ≡ map entry_of level =
-      ap (λ (x : List ExpectedPath). take (length es - start) (drop start x)) (is ∙ ap (map entry_of) (paths_split (table_network t) t.site r) ∙ map-append entry_of before level)
-      ∙ ap (take (length es - start)) (drop_at (map entry_of before) (map entry_of level) start (length-map before entry_of ∙ sym at))
-      ∙ take_all (length es - start) (map entry_of level) (omega (arith, length-map level entry_of)) in
-      let words : map (note_of ls) (take (length es - start) (drop start es)) ≡ flood_words (heard_in (lane ls)) level =
-      ap (map (note_of ls)) rest ∙ notes_are ls level level_carried in
-      let count : length (map (note_of ls) (take (length es - start) (drop start es))) ≡ length level =
-      ap (λ (x : List ExpectedPath). length (map (note_of ls) x)) rest ∙ length-map (map entry_of level) (note_of ls) ∙ length-map level entry_of in
-      let end : start + length (map (note_of ls) (take (length es - start) (drop start es))) ≡ length (table_paths t r) = omega arith in
-      notes_placed ls es (length es - start) start book fits inside
-      ∙ ap (λ x. take x book ++ (map (note_of ls) (take (length es - start) (drop start es)) ++ drop (start + length (map (note_of ls) (take (length es - start) (drop start es)))) book)) at
-      ∙ ap (λ x. take (length before) book ++ (x ++ drop (start + length (map (note_of ls) (take (length es - start) (drop start es)))) book)) words
-      ∙ ap (λ x. take (length before) book ++ (flood_words (heard_in (lane ls)) level ++ drop x book)) end
+      let words : List ℕ = flood_words (heard_in (lane ls)) level in
+      let last : start + i ≡ length (table_paths t r) = omega (arith, ap length is, length-map level entry_of, counts_rise t r) in
+      append_assoc (take start book) (map (note_of ls) (take i ps)) (drop (start + i) book)
+      ∙ ap (λ k. take k book ++ (map (note_of ls) (take i ps) ++ drop (start + i) book)) at
+      ∙ ap (λ (x : List ExpectedPath). take (length (table_paths t (r - 1))) book ++ (map (note_of ls) x ++ drop (start + i) book)) (take_all i ps (omega arith) ∙ is)
+      ∙ ap (λ x. take (length (table_paths t (r - 1))) book ++ (x ++ drop (start + i) book)) (notes_are ls level level_carried)
+      ∙ ap (λ k. take (length (table_paths t (r - 1))) book ++ (words ++ drop k book)) last
 
   -- an entry can be heard
   pub record Hearable (e : ExpectedPath) : Type 0 where
@@ -116,15 +117,20 @@ module _ (t : PathTable) (r : ℕ) where
     pub low_front : e.front < 2 ^ 32 - 1
     pub low_word : e.word < 2 ^ 32 - 1
 
-  pub hearable : (es : List ExpectedPath) (i : ℕ) → es ≡ map entry_of (table_paths t r) → i < length es → Hearable (get_or es i no_entry)
-  hearable es i is lt =
-      let ps : List (List ℕ) = table_paths t r in
+  entry_hearable : (ps : List (List ℕ)) (es : List ExpectedPath) (i : ℕ) → ((p : List ℕ) → In p ps → Carried p) → es ≡ map entry_of ps → i < length es → Hearable (get_or es i no_entry)
+  entry_hearable ps es i all is lt =
       let inside : i < length ps = omega (arith, ap length is, length-map ps entry_of) in
       let p : List ℕ = get_or ps i [] in
       let same : get_or es i no_entry ≡ entry_of p = ap (λ (x : List ExpectedPath). get_or x i no_entry) is ∙ get_or-map entry_of ps i [] no_entry inside in
-      let c : Carried p = table_carried t r p (get_or_in ps [] i inside) in
+      let c : Carried p = all p (get_or_in ps [] i inside) in
       let h : Hearable (entry_of p) = record { low_last = final_small p c.path; low_front = word_small (front p) (front_carried p c.path); low_word = word_small p c } in
       subst Hearable (sym same) h
+
+  pub level_hearable : (es : List ExpectedPath) (i : ℕ) → es ≡ map entry_of (table_level t r) → i < length es → Hearable (get_or es i no_entry)
+  level_hearable es i is lt = entry_hearable (table_level t r) es i level_carried is lt
+
+  pub hearable : (es : List ExpectedPath) (i : ℕ) → es ≡ map entry_of (table_paths t r) → i < length es → Hearable (get_or es i no_entry)
+  hearable es i is lt = entry_hearable (table_paths t r) es i (table_carried t r) is lt
 
   -- the words noted for a level
   pub round_part : (book : List ℕ) (start end : ℕ) → start ≡ length (table_paths t (r - 1)) → end ≡ length (table_paths t r) →

@@ -1,7 +1,7 @@
 -- Weighing by what a notebook tells.
-use Rattle.std.proofs.Common.{◌≡◌, ℕ, zero, suc, ◌+◌, ◌<◌, ◌≤◌, Bool, true, false, cond, List, [], ◌∷◌, map, length, get_or, drop, sym, refl, ap, ◌∙◌, arith}
-use Rattle.std.specs.List.{AllByRecursion}
-use Rattle.std.proofs.lemmas.List.{drop_more, drop_all, nil_from_length}
+use Rattle.std.proofs.Common.{◌≡◌, ℕ, zero, suc, ◌-◌, ◌<◌, Bool, true, false, cond, MatchBool, List, [], ◌∷◌, map, length, get_or, take, drop, Some, None, sym, refl, ap, ◌∙◌, subst, arith}
+use Rattle.std.specs.List.{slice_get, AllByRecursion, AllWithin, HoldsAt}
+use Rattle.std.proofs.lemmas.List.{take_all}
 use Rattle.sites.specs.Sets.{in_set}
 use Rattle.sites.specs.Lists.{front}
 use Rattle.sites.specs.Keepers.{keepers}
@@ -20,27 +20,54 @@ other_head true false xs e = refl
 other_head false true xs e = refl
 other_head false false xs e = absurd (e refl)
 
-module _ (B : ℕ → Bool) (b : Bool) (i : ℕ) (ws : List ℕ) (below : i < length ws) where
-  pub alike_more : B (get_or ws i 0) ≡ b → all_are b (map B (drop i ws)) ≡ all_are b (map B (drop (i + 1) ws))
-  alike_more e = ap (λ t. all_are b (map B t)) (drop_more ws i 0 below) ∙ same_head b (B (get_or ws i 0)) (map B (drop (i + 1) ws)) e
+tail_false : (b x : Bool) (xs : List Bool) → all_are b xs ≡ false → all_are b (x ∷ xs) ≡ false
+tail_false true true xs e = e
+tail_false true false xs e = refl
+tail_false false true xs e = refl
+tail_false false false xs e = e
 
-  pub alike_not : (B (get_or ws i 0) ≡ b → ⊥) → all_are b (map B (drop i ws)) ≡ false
-  alike_not e = ap (λ t. all_are b (map B t)) (drop_more ws i 0 below) ∙ other_head b (B (get_or ws i 0)) (map B (drop (i + 1) ws)) e
+-- the bits of some words, as a test of each lawful one tells them
+module _ (L : ℕ → Type 0) (B : ℕ → Bool) (b : Bool) where
+  all_alike : (ws : List ℕ) → AllByRecursion L ws → ((k : ℕ) → k < length ws → L (get_or ws k 0) → B (get_or ws k 0) ≡ b) → all_are b (map B ws) ≡ true
+  all_alike [] a h = none b
+    where
+      none : (c : Bool) → all_are c [] ≡ true
+      none true = refl
+      none false = refl
+  all_alike (w ∷ ws) a h = same_head b (B w) (map B ws) (h 0 (omega arith) a.0) ∙ all_alike ws a.1 (λ k lt. h (suc k) (omega arith))
 
-pub alike_end : (B : ℕ → Bool) (b : Bool) (i : ℕ) (ws : List ℕ) → length ws ≤ i → all_are b (map B (drop i ws)) ≡ true
-alike_end B b i ws h = ap (λ t. all_are b (map B t)) (drop_all i ws h) ∙ none b
-  where
-    none : (c : Bool) → all_are c [] ≡ true
-    none true = refl
-    none false = refl
+  not_alike : (ws : List ℕ) (k : ℕ) → AllByRecursion L ws → k < length ws → (L (get_or ws k 0) → B (get_or ws k 0) ≡ b → ⊥) → all_are b (map B ws) ≡ false
+  not_alike [] k a lt h = absurd (omega arith)
+  not_alike (w ∷ ws) zero a lt h = other_head b (B w) (map B ws) (h a.0)
+  not_alike (w ∷ ws) (suc k) a lt h = tail_false b (B w) (map B ws) (not_alike ws k a.1 (omega arith) h)
 
-pub agreed_cons : (B : ℕ → Bool) (own : Bool) (ws : List ℕ) → 0 < length ws → agreed own (map B ws) ≡ cond (all_are (B (get_or ws 0 0)) (map B (drop 1 ws))) (B (get_or ws 0 0)) own
+  pub all_told : (ws : List ℕ) (r : Bool) → AllByRecursion L ws →
+      MatchBool r (AllWithin (λ w. L w → B w ≡ b) ws 0 (length ws)) ((k : ℕ) × (k < length ws) × HoldsAt (λ w. L w → B w ≡ b → ⊥) ws k) → r ≡ all_are b (map B ws)
+  all_told ws true a h = sym (all_alike ws a (λ k lt. h k 0 (omega arith) lt))
+  all_told ws false a h = sym (not_alike ws h.0 a h.1 (h.2 0))
+
+-- ---- a fan, by its first word and the others
+
+rest_is : (x : ℕ) (xs : List ℕ) → take (length (x ∷ xs) - 1) xs ≡ xs
+rest_is x xs = take_all (length (x ∷ xs) - 1) xs (omega arith)
+
+pub rest_lawful : (L : ℕ → Type 0) (w : ℕ) (fan : List ℕ) → Some w ≡ slice_get fan 0 → AllByRecursion L fan → AllByRecursion L (take (length fan - 1) (drop 1 fan))
+rest_lawful L w [] e a = absurd (let z : ◌≡◌ {A = ℕ} 0 1 = cc in omega arith)
+rest_lawful L w (x ∷ xs) e a = subst (AllByRecursion L) (sym (rest_is x xs)) a.1
+
+pub agreed_by : (L : ℕ → Type 0) (B : ℕ → Bool) (own bit r : Bool) (w : ℕ) (fan : List ℕ) → Some w ≡ slice_get fan 0 → AllByRecursion L fan → (L w → bit ≡ B w) →
+    r ≡ all_are bit (map B (take (length fan - 1) (drop 1 fan))) → cond r bit own ≡ agreed own (map B fan)
 unfolding agreed
-agreed_cons B own ws h = ap (λ t. agreed own (map B t)) (drop_more ws 0 0 h)
+agreed_by L B own bit r w [] e a told is = absurd (let z : ◌≡◌ {A = ℕ} 0 1 = cc in omega arith)
+agreed_by L B own bit r w (x ∷ xs) e a told is =
+    let same : x ≡ w = cc in
+    let first : bit ≡ B x = told (subst L same a.0) ∙ sym (ap B same) in
+    ap (λ t. cond t bit own) (is ∙ ap (λ t. all_are bit (map B t)) (rest_is x xs)) ∙ ap (λ y. cond (all_are y (map B xs)) y own) first
 
-pub agreed_none : (B : ℕ → Bool) (own : Bool) (ws : List ℕ) → length ws ≡ 0 → own ≡ agreed own (map B ws)
+pub agreed_none : (B : ℕ → Bool) (own : Bool) (fan : List ℕ) → None ≡ slice_get fan 0 → own ≡ agreed own (map B fan)
 unfolding agreed
-agreed_none B own ws h = sym (ap (λ t. agreed own (map B t)) (nil_from_length ws h))
+agreed_none B own [] e = refl
+agreed_none B own (x ∷ xs) e = absurd (let z : ◌≡◌ {A = ℕ} 0 1 = cc in omega arith)
 
 -- ---- the whole
 
@@ -61,9 +88,3 @@ module _ (N : Network) (hear : List ℕ → Bool) (F : ℕ) (own : Bool) (v A : 
       ap (agreed own) (map_parts g (λ p. hear (front p)) fan ∙ ap (map (λ p. hear (front p))) paths)
       ∙ sym (ap (λ x. cond (in_set x v) own (agreed own (map (λ p. hear (front p)) (N.fan F v x)))) (sym is)
       ∙ ap (λ b. cond b own (agreed own (map (λ p. hear (front p)) (N.fan F v A)))) h)
-
--- each word of a fan is lawful
-pub all_at : (P : ℕ → Type 0) (ws : List ℕ) (i : ℕ) → AllByRecursion P ws → i < length ws → P (get_or ws i 0)
-all_at P [] i a h = absurd (omega arith)
-all_at P (w ∷ ws) zero a h = a.0
-all_at P (w ∷ ws) (suc i) a h = all_at P ws i a.1 (omega arith)

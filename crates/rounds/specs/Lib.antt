@@ -1,4 +1,5 @@
 pub mod Ears
 pub mod Speaking
 pub mod Recalling
+pub mod Telling
 pub mod Laws

@@ -1,20 +1,49 @@
 ghost use Rattle.std.specs.Prelude.{◌≡◌, ℕ, ◌-◌, ◌^◌, ◌<◌, ◌≤◌, true, drop};
 ghost use Rattle.sites.specs.Lists.{front, final};
 ghost use Rattle.words.specs.Words.{sites_of};
-ghost use Rattle.airs.specs.Lanes.{Lanes, lane};
+ghost use Rattle.airs.specs.Lanes.{Lanes, lane, word_at};
 ghost use Rattle.notebooks.specs.Floods.{first_of_two, heard_in};
 ghost use Rattle.notebooks.specs.Notebooks.{note_round, take_round};
 ghost use Rattle.tables.specs.Entries.{path_word};
 ghost use Rattle.tables.specs.Tables.{table_network};
-ghost use Rattle.rounds.specs.Ears.{Below, Tuned, note_of};
+ghost use Rattle.rounds.specs.Ears.{Below, Tuned, note_of, said_of, said_at, stops_at};
 
 use crate::ears::{Ear, Ears};
 use crate::notebook::Notebook;
 use crate::recalling::front_word;
-use crate::speaking::first_of_round;
+use crate::speaking::{first_of_round, with_bit};
 use airs::Air;
 use tables::{ExpectedPath, PathTable};
 use words::Path;
+
+// The bit that a word says of a wanted path, whose flood word with bit 0 is given; nothing where it says none of it.
+fn bit_of(word: u32, wanted: u32) -> Option<bool>
+    requires { wanted < 2 ^ 32 - 1 }
+    ensures { result ≡ said_of wanted word }
+{
+    if word == wanted {
+        Some(false)
+    } else if word == wanted + 1 {
+        Some(true)
+    } else {
+        None
+    }
+}
+
+// Whether a lane has a word at a place that is not below the wanted one.
+fn stops<A: Air>(air: &A, site: u8, place: usize, wanted: u32) -> bool
+    ensures { result ≡ stops_at wanted (word_at (A.lanes air.now) site place) }
+{
+    air.at(site, place).is_some_and(|word| word >= wanted)
+}
+
+// The bit that the word at a place of a lane says of a wanted path.
+fn said<A: Air>(air: &A, site: u8, place: usize, wanted: u32) -> Option<bool>
+    requires { wanted < 2 ^ 32 - 1 }
+    ensures { result ≡ said_at wanted (word_at (A.lanes air.now) site place) }
+{
+    bit_of(air.at(site, place)?, wanted)
+}
 
 // A place up to which all words of a lane are below the wanted one.
 fn pass<A: Air>(air: &A, site: u8, wanted: u32, start: usize) -> usize
@@ -22,21 +51,9 @@ fn pass<A: Air>(air: &A, site: u8, wanted: u32, start: usize) -> usize
     ensures { Below (lane (A.lanes air.now) site) result wanted }
 {
     let count = air.count(site);
-    for k in start..count {
-        if let Some(word) = air.at(site, k) {
-            if word >= wanted {
-                return k;
-            }
-        }
-    }
-    count
-}
-
-// What silence is read as.
-fn silence() -> bool
-    ensures { result ≡ true }
-{
-    true
+    (start..count)
+        .find(|k| stops(air, site, *k, wanted))
+        .unwrap_or(count)
 }
 
 // The bit of the first word of a lane, from a place on, that is the wanted one with bit 0 or 1; 1 where there is none.
@@ -44,17 +61,13 @@ fn search<A: Air>(air: &A, site: u8, wanted: u32, start: usize) -> bool
     requires { wanted < 2 ^ 32 - 1 }
     ensures { result ≡ first_of_two wanted (drop start (lane (A.lanes air.now) site)) }
 {
+    // a loop: of `find_map` over a range std's lemmas tell no positions
     for k in start..air.count(site) {
-        if let Some(word) = air.at(site, k) {
-            if word == wanted {
-                return false;
-            }
-            if word == wanted + 1 {
-                return true;
-            }
+        if let Some(bit) = said(air, site, k, wanted) {
+            return bit;
         }
     }
-    silence()
+    true
 }
 
 /// The bit heard along a path: that of the first lawful flood word in the lane of its last site whose path is the path
@@ -69,12 +82,7 @@ pub fn heard<A: Air>(air: &A, path: &Path) -> bool
 fn last_site(path: &Path) -> u8
     ensures { result ≡ final (sites_of path.now) }
 {
-    let sites = path.sites();
-    let count = sites.len();
-    if count == 0 {
-        return 0;
-    }
-    sites[count - 1]
+    path.sites().last().copied().unwrap_or(0)
 }
 
 impl Ear {
@@ -110,11 +118,8 @@ impl Ears {
         ensures heard { result ≡ note_of (A.lanes air.now) path }
         ensures tuned { Tuned (A.lanes air.now) self.new }
     {
-        if self.ears[path.last as usize].hear(air, path.last, path.front) {
-            path.word + 1
-        } else {
-            path.word
-        }
+        let bit = self.ears[path.last as usize].hear(air, path.last, path.front);
+        with_bit(path, bit)
     }
 }
 
@@ -126,10 +131,10 @@ impl Notebook {
         ensures { self.new.words ≡ note_round (table_network table.now) table.now.site round (heard_in (lane (A.lanes air.now))) self.old.words }
     {
         let start = first_of_round(table, round);
-        let paths = table.up_to(round);
+        let paths = &table.up_to(round)[start..];
         let mut ears = Ears::new();
-        for i in start..paths.len() {
-            self.words[i] = ears.hear(air, paths[i]);
+        for (i, path) in paths.iter().enumerate() {
+            self.words[start + i] = ears.hear(air, *path);
         }
     }
 
@@ -138,7 +143,7 @@ impl Notebook {
         ensures { self.new.words ≡ take_round (table_network table.now) table.now.site round (heard_in (lane (A.lanes air.now))) self.old.words }
     {
         if round == 1 {
-            self.words = [0; 325];
+            *self = Notebook::new();
         }
         self.hear_round(air, table, round);
     }

@@ -4,9 +4,9 @@ mod ears;
 mod hearing;
 mod laws;
 mod notebook;
+mod phase;
 mod recalling;
 mod speaking;
-mod speaking_by_bits;
 mod weighing;
 
 pub use hearing::heard;

@@ -1,10 +1,10 @@
 ghost use Rattle.std.specs.Prelude.{◌≡◌, ◌-◌, ◌^◌, ◌<◌, nat_lt, slice_set};
 ghost use Rattle.sites.specs.Lists.{front};
 ghost use Rattle.words.specs.Words.{sites_of};
-ghost use Rattle.notebooks.specs.Notebooks.{empty_book, bit_at, noted as noted_in, or_one, told_by};
+ghost use Rattle.notebooks.specs.Notebooks.{empty_book, bit_at, noted as noted_in, told_by};
 ghost use Rattle.tables.specs.Entries.{path_word};
 ghost use Rattle.tables.specs.Tables.{table_network};
-ghost use Rattle.rounds.specs.Recalling.{Asks, or_unheard, recall_reply};
+ghost use Rattle.rounds.specs.Recalling.{Asks, recall_reply};
 
 use crate::notebook::Notebook;
 use sites::Refusal;
@@ -12,15 +12,11 @@ use tables::PathTable;
 use words::{Kind, Path, PathWord};
 
 // A path without its last site; the empty path for the empty one.
-fn front_of(path: &Path) -> Path
+pub(crate) fn front_of(path: &Path) -> Path
     ensures { sites_of result ≡ front (sites_of path.now) }
 {
     let sites = path.sites();
-    let count = sites.len();
-    match Path::new(&sites[0..count.saturating_sub(1)]) {
-        Ok(front) => front,
-        Err(_) => *path,
-    }
+    Path::new(&sites[..sites.len().saturating_sub(1)]).unwrap_or(*path)
 }
 
 // The flood word, with bit 0, of a path without its last site.
@@ -28,10 +24,7 @@ pub(crate) fn front_word(path: &Path) -> u32
     ensures value { result ≡ path_word (front (sites_of path.now)) }
     ensures bound { result < 2 ^ 32 - 1 }
 {
-    match PathWord::new(Kind::Flood, front_of(path), 0) {
-        Ok(flood) => flood.write(),
-        Err(_) => 0,
-    }
+    PathWord::new(Kind::Flood, front_of(path), 0).map_or(0, |flood| flood.write())
 }
 
 // The path of a lawful flood word with bit 0; refused with 5 for any other word.
@@ -39,35 +32,10 @@ fn asked(word: u32) -> Result<Path, Refusal>
     ensures { Asks word result }
 {
     let flood = PathWord::read(word)?;
-    match flood.kind() {
-        Kind::Flood => {
-            if flood.tail() != 0 {
-                return Err(Refusal::Path);
-            }
-            Ok(flood.path())
-        }
-        _ => Err(Refusal::Path),
+    if flood.kind() != Kind::Flood || flood.tail() != 0 {
+        return Err(Refusal::Path);
     }
-}
-
-// A bit, or 29 where there is none.
-fn or_refused(bit: Option<bool>) -> Result<bool, Refusal>
-    ensures { result ≡ or_unheard bit }
-{
-    match bit {
-        Some(heard) => Ok(heard),
-        None => Err(Refusal::Unheard),
-    }
-}
-
-// A bit, or 1 where there is none.
-fn or_one(bit: Option<bool>) -> bool
-    ensures { result ≡ or_one bit }
-{
-    match bit {
-        Some(heard) => heard,
-        None => true,
-    }
+    Ok(flood.path())
 }
 
 impl Notebook {
@@ -92,18 +60,18 @@ impl Notebook {
         ensures answer { result ≡ nat_lt place 325 }
         ensures after { self.new.words ≡ slice_set self.old.words place word }
     {
-        if place >= 325 {
-            return false;
+        let inside = place < self.words.len();
+        if inside {
+            self.words[place] = word;
         }
-        self.words[place] = word;
-        true
+        inside
     }
 
     /// The bit noted at a place: the last bit of the word that stands there, and 0 past the end.
     pub fn bit_at(&self, place: usize) -> bool
         ensures { result ≡ bit_at self.now.words place }
     {
-        place < 325 && self.words[place] % 2 == 1
+        self.words.get(place).is_some_and(|word| *word % 2 == 1)
     }
 
     // The bit noted for a path when so many rounds of a phase were heard; nothing where the table's site does not expect
@@ -111,8 +79,7 @@ impl Notebook {
     fn noted(&self, table: &PathTable, path: &Path, rounds: usize) -> Option<bool>
         ensures { result ≡ noted_in (table_network table.now) table.now.site rounds self.now.words (sites_of path.now) }
     {
-        let place = table.position(path, rounds)?;
-        Some(self.bit_at(place))
+        table.position(path, rounds).map(|place| self.bit_at(place))
     }
 
     /// The bit noted for a path, given as its flood word with bit 0, when so many rounds of a phase were heard. Refused
@@ -122,7 +89,7 @@ impl Notebook {
         ensures { result ≡ recall_reply (table_network table.now) table.now.site rounds self.now.words word }
     {
         let path = asked(word)?;
-        or_refused(self.noted(table, &path, rounds))
+        self.noted(table, &path, rounds).ok_or(Refusal::Unheard)
     }
 
     /// What the notebook tells of a path when all rounds of a phase were heard: the bit noted for it, and 1 where the
@@ -131,13 +98,6 @@ impl Notebook {
         ensures { result ≡ told_by (table_network table.now) table.now.site self.now.words (sites_of path.now) }
     {
         let rounds = (table.site_count() as usize).saturating_sub(1);
-        or_one(self.noted(table, path, rounds))
-    }
-
-    // What it tells of a path without its last site.
-    pub(crate) fn told_front(&self, table: &PathTable, path: &Path) -> bool
-        ensures { result ≡ told_by (table_network table.now) table.now.site self.now.words (front (sites_of path.now)) }
-    {
-        self.told(table, &front_of(path))
+        self.noted(table, path, rounds).unwrap_or(true)
     }
 }

@@ -1,38 +1,20 @@
-ghost use Rattle.std.specs.Prelude.{◌≡◌, ◌-◌, ◌/◌, ◌^◌, true, map, is_some, if◌then◌else◌, Decides, bit_and, count_ones, nat_eq};
+ghost use Rattle.std.specs.Prelude.{◌≡◌, true, map, is_some, if◌then◌else◌, nat_eq};
 ghost use Rattle.std.specs.List.{AllByRecursion};
 ghost use Rattle.sites.specs.Lists.{front};
 ghost use Rattle.sites.specs.Keepers.{keepers as keepers_by};
 ghost use Rattle.words.specs.Layout.{path_field};
-ghost use Rattle.words.specs.Words.{meaning};
-ghost use Rattle.theory.specs.Weighing.{zeros as zeros_of, agreed as agreed_of, weigh as weigh_of};
+ghost use Rattle.words.specs.Words.{meaning, sites_of};
+ghost use Rattle.theory.specs.Weighing.{zeros as zeros_of, all_are, agreed as agreed_of, weigh as weigh_of};
 ghost use Rattle.notebooks.specs.Notebooks.{told_by};
 ghost use Rattle.tables.specs.Tables.{table_network};
+ghost use Rattle.rounds.specs.Telling.{tells};
 
 use crate::notebook::Notebook;
-use sites::SiteMask;
+use crate::phase::{Heard, Phase};
+use crate::recalling::front_of;
+use sites::{NetworkSize, SiteMask};
 use tables::{PathTable, Routing};
-use words::PathWord;
-
-// The set of all sites.
-fn all_sites<P: Routing>(plan: &P) -> u32
-    ensures { result ≡ 2 ^ (P.network plan.now).n - 1 }
-{
-    (1 << plan.site_count()) - 1
-}
-
-// Half a number, rounded down.
-fn half(limit: u32) -> u32
-    ensures { result ≡ limit / 2 }
-{
-    limit / 2
-}
-
-// How many suspects have bit 0.
-fn zero_suspects(set: SiteMask, zeros: SiteMask) -> u32
-    ensures { result ≡ count_ones (bit_and zeros.bits set.bits) }
-{
-    zeros.and(set).count()
-}
+use words::{Path, PathWord};
 
 /// The set A of the sites that keep their bits, where a set is suspected and the sites of Z have bit 0; N are the others
 /// of the n sites, and B is the other one of Z and N.
@@ -46,40 +28,95 @@ fn zero_suspects(set: SiteMask, zeros: SiteMask) -> u32
 pub fn keepers<P: Routing>(plan: &P, set: SiteMask, zeros: SiteMask) -> SiteMask
     ensures { result.bits ≡ keepers_by (P.network plan.now).n (P.network plan.now).f set.bits zeros.bits }
 {
-    let limit = plan.rogue_limit() as u32;
-    let rest = SiteMask {
-        bits: all_sites(plan).saturating_sub(zeros.bits),
-    };
-    if zero_suspects(set, zeros) <= half(limit) {
-        if rest.count() > limit {
-            return rest;
+    let sites = plan.site_count();
+    let rogues = plan.rogue_limit();
+    NetworkSize { sites, rogues }.keepers(set, zeros)
+}
+
+impl<'a> Heard<'a> {
+    // The bit told of a path without its last site.
+    fn told_front(&self, path: &Path) -> bool
+        ensures { result ≡ tells self.now (front (sites_of path.now)) }
+    {
+        self.notebook.told(self.table, &front_of(path))
+    }
+
+    // The bit told of the path of a lawful word, without its last site.
+    fn bit_along(&self, word: u32) -> bool
+        ensures { is_some (meaning word) ≡ true → result ≡ tells self.now (front (path_field word)) }
+    {
+        let Ok(path) = PathWord::read(word) else {
+            return true;
+        };
+        self.told_front(&path.path())
+    }
+
+    // Whether a bit came along each of some paths.
+    fn all_bring(&self, words: &[u32], bit: bool) -> bool
+        requires { AllByRecursion (λ w. is_some (meaning w) ≡ true) words.now }
+        ensures { result ≡ all_are bit (map (λ w. tells self.now (front (path_field w))) words.now) }
+    {
+        words.iter().all(|word| self.bit_along(*word) == bit)
+    }
+
+    // The common bit of the paths of a fan, or else the one held.
+    fn agreed(&self, fan: &[u32], own: bool) -> bool
+        requires { AllByRecursion (λ w. is_some (meaning w) ≡ true) fan.now }
+        ensures { result ≡ agreed_of own (map (λ w. tells self.now (front (path_field w))) fan.now) }
+    {
+        let Some(first) = fan.first() else {
+            return own;
+        };
+        let bit = self.bit_along(*first);
+        if self.all_bring(&fan[1..], bit) {
+            bit
+        } else {
+            own
         }
-        return zeros;
     }
-    if zeros.count() > limit {
-        return zeros;
+}
+
+impl<'a, P: Routing> Phase<'a, P> {
+    // The bit that the site has from a site.
+    fn bit_from(&self, from: u8) -> bool
+        ensures { result ≡ (if nat_eq from self.now.heard.table.now.site then self.now.own else tells self.now.heard (front ((P.network self.now.plan.now).route self.now.set.bits from self.now.heard.table.now.site))) }
+    {
+        let site = self.heard.table.site();
+        if from == site {
+            return self.own;
+        }
+        self.heard
+            .told_front(&self.plan.route(self.set, from, site))
     }
-    rest
+
+    // Z: the sites from which the site has a 0, by its own bit and by the bits told of the routes taken.
+    fn zeros(&self) -> SiteMask
+        ensures { result.bits ≡ zeros_of (P.network self.now.plan.now) (tells self.now.heard) self.now.set.bits self.now.own self.now.heard.table.now.site }
+    {
+        let mut bits = 0;
+        for from in 0..self.plan.site_count() {
+            if !self.bit_from(from) {
+                bits += 1 << from;
+            }
+        }
+        SiteMask { bits }
+    }
+
+    // The bit that the site holds from then on.
+    fn weigh(&self) -> bool
+        ensures { result ≡ weigh_of (P.network self.now.plan.now) (tells self.now.heard) self.now.set.bits self.now.own self.now.heard.table.now.site }
+    {
+        let site = self.heard.table.site();
+        let among = keepers(self.plan, self.set, self.zeros());
+        if among.contains(site) {
+            return self.own;
+        }
+        let fan = self.plan.fan(self.set, site, among);
+        self.heard.agreed(fan, self.own)
+    }
 }
 
 impl Notebook {
-    // The bit that the table's site has from a site.
-    fn bit_from<P: Routing>(
-        &self,
-        plan: &P,
-        table: &PathTable,
-        set: SiteMask,
-        own: bool,
-        from: u8,
-    ) -> bool
-        ensures { result ≡ (if nat_eq from table.now.site then own else told_by (table_network table.now) table.now.site self.now.words (front ((P.network plan.now).route set.bits from table.now.site))) }
-    {
-        if from == table.site() {
-            return own;
-        }
-        self.told_front(table, &plan.route(set, from, table.site()))
-    }
-
     /// Z: the sites from which the table's site has a 0 when a phase is over, by its own bit and by the bits told of the
     /// routes taken.
     pub fn zeros<P: Routing>(
@@ -91,60 +128,29 @@ impl Notebook {
     ) -> SiteMask
         ensures { result.bits ≡ zeros_of (P.network plan.now) (told_by (table_network table.now) table.now.site self.now.words) set.bits own table.now.site }
     {
-        let mut bits = 0;
-        for from in 0..plan.site_count() {
-            if !self.bit_from(plan, table, set, own, from) {
-                bits += 1 << from;
-            }
-        }
-        SiteMask { bits }
-    }
-
-    // The bit told of a path of a fan, without its last site.
-    fn bit_along(&self, table: &PathTable, word: u32) -> bool
-        requires { is_some (meaning word) ≡ true }
-        ensures { result ≡ told_by (table_network table.now) table.now.site self.now.words (front (path_field word)) }
-    {
-        match PathWord::read(word) {
-            Ok(path) => self.told_front(table, &path.path()),
-            Err(_) => true,
-        }
-    }
-
-    // Whether a path of a fan brought a bit.
-    fn brings(&self, table: &PathTable, word: u32, bit: bool) -> bool
-        requires { is_some (meaning word) ≡ true }
-        ensures { Decides result (told_by (table_network table.now) table.now.site self.now.words (front (path_field word)) ≡ bit) }
-    {
-        self.bit_along(table, word) == bit
-    }
-
-    // The common bit of the paths of a fan, or else the one held.
-    fn agreed(&self, table: &PathTable, fan: &[u32], own: bool) -> bool
-        requires { AllByRecursion (λ w. is_some (meaning w) ≡ true) fan.now }
-        ensures { result ≡ agreed_of own (map (λ w. told_by (table_network table.now) table.now.site self.now.words (front (path_field w))) fan.now) }
-    {
-        if fan.len() == 0 {
-            return own;
-        }
-        let one = self.bit_along(table, fan[0]);
-        for k in 1..fan.len() {
-            if !self.brings(table, fan[k], one) {
-                return own;
-            }
-        }
-        one
+        let notebook = self;
+        let heard = Heard { table, notebook };
+        let phase = Phase {
+            plan,
+            heard,
+            set,
+            own,
+        };
+        phase.zeros()
     }
 
     /// The bit that the table's site holds from the end of a phase on, where it held `own` and a set was suspected.
     pub fn weigh<P: Routing>(&self, plan: &P, table: &PathTable, set: SiteMask, own: bool) -> bool
         ensures { result ≡ weigh_of (P.network plan.now) (told_by (table_network table.now) table.now.site self.now.words) set.bits own table.now.site }
     {
-        let site = table.site();
-        let among = keepers(plan, set, self.zeros(plan, table, set, own));
-        if among.contains(site) {
-            return own;
-        }
-        self.agreed(table, plan.fan(set, site, among), own)
+        let notebook = self;
+        let heard = Heard { table, notebook };
+        let phase = Phase {
+            plan,
+            heard,
+            set,
+            own,
+        };
+        phase.weigh()
     }
 }

@@ -5,14 +5,13 @@ use Rattle.std.proofs.lemmas.Bool.{ltb-true, leb-true, and_parts}
 use Rattle.sites.specs.declared.refusal.Refusal.{Refusal}
 use Rattle.airs.specs.Lanes.{Lanes, kept}
 use Rattle.runs.specs.declared.calls.Call.TheVariants.{Transmit, Speak, Turn, Held, Decision, Recalled}
-use Rattle.runs.specs.declared.calls.Answer.TheVariants.{Refused}
 use Rattle.runs.specs.State.{State, opened}
 use Rattle.runs.specs.Replies.{transmit_reply, speak_reply, turn_reply}
 use Rattle.runs.specs.Runs.{counted}
 use Rattle.runs.specs.Laws.{RefusedLaw, OpenLaw, OneWayLaw}
 use Rattle.runs.proofs.Runs.{runs_so, ran_so}
 
-kept_refused : (r : Result ℕ Refusal) (changed st : State) (e : Refusal) → counted r ≡ Refused e → kept r changed st ≡ st
+kept_refused : (r : Result ℕ Refusal) (changed st : State) (e : Refusal) → counted r ≡ Err e → kept r changed st ≡ st
 kept_refused (Ok k) changed st e h = absurd (let z : ◌≡◌ {A = ℕ} 0 1 = cc in omega arith)
 kept_refused (Err x) changed st e h = refl
 

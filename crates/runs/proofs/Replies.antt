@@ -15,7 +15,7 @@ use Rattle.notebooks.specs.Notebooks.{pages, listed, noted}
 use Rattle.notebooks.proofs.Notebooks.{shown_noted, shown_long, put_few}
 use Rattle.runs.specs.declared.calls.Call.{Call}
 use Rattle.runs.specs.declared.calls.Call.TheVariants.{Transmit, Speak, Turn, Held, Decision, Recalled}
-use Rattle.runs.specs.declared.calls.Answer.TheVariants.{Count, Bit, Refused}
+use Rattle.runs.specs.declared.calls.Value.TheVariants.{Count, Bit}
 use Rattle.runs.specs.State.{State, site, last_turn, over, round, phase_noted, rounds_noted}
 use Rattle.runs.specs.Replies.{transmit_reply, speech, speak_reply, all_spoke, turn_reply, held_reply, decision_reply, or_unheard, recalled_as, recalled_reply}
 use Rattle.runs.specs.Runs.{counted, told, reply}
@@ -27,11 +27,11 @@ or_refused : (b c : Bool) → or_unheard (cond b (Some c) None) ≡ cond b (Ok c
 or_refused true c = refl
 or_refused false c = refl
 
-told_cond : (b c : Bool) (x : Refusal) → told (cond b (Ok c) (Err x)) ≡ cond b (Bit c) (Refused x)
+told_cond : (b c : Bool) (x : Refusal) → told (cond b (Ok c) (Err x)) ≡ cond b (Ok (Bit c)) (Err x)
 told_cond true c x = refl
 told_cond false c x = refl
 
-counted_ok : (r : Result ℕ Refusal) (k : ℕ) → counted r ≡ Count k → r ≡ Ok k
+counted_ok : (r : Result ℕ Refusal) (k : ℕ) → counted r ≡ Ok (Count k) → r ≡ Ok k
 counted_ok (Ok j) k e = let z : j ≡ k = cc in ap (λ (x : ℕ). Ok x) z
 counted_ok (Err x) k e = absurd (let z : ◌≡◌ {A = ℕ} 0 1 = cc in omega arith)
 

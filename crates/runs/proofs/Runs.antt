@@ -1,5 +1,5 @@
 -- Lists of calls: what each call does to the turns and to the lanes of rogues, and what a whole list leads to.
-use Rattle.std.proofs.Common.{◌≡◌, ℕ, zero, suc, ◌+◌, ◌<◌, ◌≤◌, Bool, true, cond, ◌||◌, eqb, List, [], ◌∷◌, ◌++◌, length, get_or, Ok, Result, sym, refl, ap, ◌∙◌, subst, ⊎_elim, append_assoc, append-nil, arith, length-append}
+use Rattle.std.proofs.Common.{◌≡◌, ℕ, zero, suc, ◌+◌, ◌<◌, ◌≤◌, Bool, true, cond, ◌||◌, eqb, List, [], ◌∷◌, ◌++◌, length, get_or, Ok, Err, Result, sym, refl, ap, ◌∙◌, subst, ⊎_elim, append_assoc, append-nil, arith, length-append}
 use Rattle.std.proofs.lemmas.List.{get_or-set_same, get_or-set_other}
 use Rattle.std.proofs.lemmas.Bool.{eq-eqb, ne_eqb, cases_eq, both_ways, or_left, cond-true, cond-false}
 use Rattle.sites.specs.declared.refusal.Refusal.{Refusal}
@@ -12,11 +12,9 @@ use Rattle.airs.proofs.Puts.{added_own, added_other}
 use Rattle.notebooks.specs.Floods.{floods}
 use Rattle.runs.specs.declared.calls.Call.{Call}
 use Rattle.runs.specs.declared.calls.Call.TheVariants.{Transmit, Speak, Turn, Held, Decision, Recalled}
-use Rattle.runs.specs.declared.calls.Answer.{Answer}
-use Rattle.runs.specs.declared.calls.Answer.TheVariants.{Refused}
 use Rattle.runs.specs.State.{SiteRecord, State, blank, site}
 use Rattle.runs.specs.Replies.{transmit_reply, put, speech, speak_reply, as_spoken, spoken_by, turn_reply, turned}
-use Rattle.runs.specs.Runs.{counted, reply, next, Entry, Ran, none, more, after, answers, entries, turn_answer, turn_answers, accepted_turns, spoke_then, has_spoken_from, let_put, transmitted_from}
+use Rattle.runs.specs.Runs.{Answer, counted, reply, next, Entry, Ran, none, more, after, answers, entries, turn_answer, turn_answers, accepted_turns, spoke_then, has_spoken_from, let_put, transmitted_from}
 use Rattle.runs.specs.Guarantee.{ByTheAlgorithm}
 use Rattle.runs.proofs.Accepted.{kept_both, transmit_ok, speak_ok, turn_ok}
 use Rattle.runs.proofs.Follows.{Given, Follows, silent_lane, turned_at, transmitted_follows, spoken_follows, turned_follows}
@@ -104,7 +102,7 @@ module _ (size : ℕ) (opening : ℕ → Bool) (said : Said) where
             (cases_eq s u);
         spoken = λ v h. refl;
       })
-      (λ x e. still st (Transmit s w) (Refused x) refl (λ u. refl) (λ v b. refl))
+      (λ x e. still st (Transmit s w) (Err x) refl (λ u. refl) (λ v b. refl))
   moves st (Speak s) given inv =
       kept_both (λ x r. Moves st x (Speak s) (counted r)) (speak_reply size st s) (spoken_by st s) st
       (λ k e. let ok = speak_ok size st s k e in record {
@@ -124,7 +122,7 @@ module _ (size : ℕ) (opening : ℕ → Bool) (said : Said) where
             ∙ ap (λ (b : Bool). b || (site st v).spoken) (sym (ne_eqb s v q)))
             (cases_eq s v);
       })
-      (λ x e. still st (Speak s) (Refused x) refl (λ u. refl) (λ v b. refl))
+      (λ x e. still st (Speak s) (Err x) refl (λ u. refl) (λ v b. refl))
   moves st Turn given inv =
       kept_both (λ x r. Moves st x Turn (counted r)) (turn_reply st) (turned st) st
       (λ k e. let ok = turn_ok st k e in record {
@@ -136,7 +134,7 @@ module _ (size : ℕ) (opening : ℕ → Bool) (said : Said) where
         lanes = λ u l r. silent_lane u ∙ sym (cond-false (eqb st.turns (st.turns + 1)) _ [] (ne_eqb st.turns (st.turns + 1) (λ z. omega arith)));
         spoken = λ v h. ap (λ (x : SiteRecord). x.spoken) (turned_at st v given.small h);
       })
-      (λ x e. still st Turn (Refused x) refl (λ u. refl) (λ v b. refl))
+      (λ x e. still st Turn (Err x) refl (λ u. refl) (λ v b. refl))
   moves st (Held s) given inv = still st (Held s) _ refl (λ u. refl) (λ v b. refl)
   moves st (Decision s) given inv = still st (Decision s) _ refl (λ u. refl) (λ v b. refl)
   moves st (Recalled s w) given inv = still st (Recalled s w) _ refl (λ u. refl) (λ v b. refl)

@@ -10,11 +10,10 @@ use Rattle.notebooks.specs.Floods.{flood_word, flood_in, floods}
 use Rattle.notebooks.specs.Notebooks.{pages, shown, listed}
 use Rattle.runs.specs.declared.calls.Call.{Call}
 use Rattle.runs.specs.declared.calls.Call.TheVariants.{Transmit, Speak, Turn, Held, Decision, Recalled}
-use Rattle.runs.specs.declared.calls.Answer.{Answer}
-use Rattle.runs.specs.declared.calls.Answer.TheVariants.{Count, Bit, Refused}
+use Rattle.runs.specs.declared.calls.Value.TheVariants.{Count, Bit}
 use Rattle.runs.specs.State.{State, blank, site, is_sound, opened, last_turn, phase_noted, rounds_noted}
 use Rattle.runs.specs.Replies.{transmit_reply, speak_reply, turn_reply, held_reply, decision_reply, recalled_reply}
-use Rattle.runs.specs.Runs.{Entry, Ran, turn_answers, accepted_turns, has_spoken, transmitted}
+use Rattle.runs.specs.Runs.{Answer, Entry, Ran, turn_answers, accepted_turns, has_spoken, transmitted}
 
 -- the algorithm's run on the words that the rogues were let to transmit: what each site said in each turn
 abbrev pub said : Network → ℕ → ℕ → List Entry → Said
@@ -23,12 +22,12 @@ said N rogues bits entries = play N rogues (in_set bits) (λ t u. floods (transm
 -- that a call's answer is the algorithm's, where some turns were accepted before it; of calls for rogues and for other numbers nothing is said here
 abbrev pub ByTheAlgorithm : Network → ℕ → (ℕ → Bool) → Said → ℕ → Call → Answer → Type 0
 ByTheAlgorithm N rogues opening said turns (Transmit s w) a = Unit {0}
-ByTheAlgorithm N rogues opening said turns (Speak v) a = (k : ℕ) → a ≡ Count k → k ≡ length (owes N said opening turns v)
-ByTheAlgorithm N rogues opening said turns Turn a = (k : ℕ) → a ≡ Count k → k ≡ turns + 1
-ByTheAlgorithm N rogues opening said turns (Held v) a = Sound N rogues v → a ≡ Bit (holds N said opening turns v)
-ByTheAlgorithm N rogues opening said turns (Decision v) a = Sound N rogues v → a ≡ cond (turns == last_turn N) (Bit (held N said opening (phases N) v)) (Refused Undecided)
+ByTheAlgorithm N rogues opening said turns (Speak v) a = (k : ℕ) → a ≡ Ok (Count k) → k ≡ length (owes N said opening turns v)
+ByTheAlgorithm N rogues opening said turns Turn a = (k : ℕ) → a ≡ Ok (Count k) → k ≡ turns + 1
+ByTheAlgorithm N rogues opening said turns (Held v) a = Sound N rogues v → a ≡ Ok (Bit (holds N said opening turns v))
+ByTheAlgorithm N rogues opening said turns (Decision v) a = Sound N rogues v → a ≡ cond (turns == last_turn N) (Ok (Bit (held N said opening (phases N) v))) (Err Undecided)
 ByTheAlgorithm N rogues opening said turns (Recalled v w) a = Sound N rogues v → (p : List ℕ) → flood_in w ≡ Some (record { path = p; bit = false }) →
-    a ≡ cond (listed p (expected_up_to N v (rounds_noted N turns))) (Bit (heard said (start N (phase_noted N turns)) p)) (Refused Unheard)
+    a ≡ cond (listed p (expected_up_to N v (rounds_noted N turns))) (Ok (Bit (heard said (start N (phase_noted N turns)) p))) (Err Unheard)
 
 -- what holds of some calls, with their answers, and of the floor after them
 pub record Guaranteed (size : ℕ) (N : Network) (rogues bits : ℕ) (entries : List Entry) (floor : State) : Type 0 where

@@ -4,14 +4,13 @@ use Rattle.sites.specs.declared.refusal.Refusal.{Refusal}
 use Rattle.sites.specs.declared.refusal.Refusal.TheVariants.{LaneFull}
 use Rattle.theory.specs.Network.{Network, Lawful, Suspect}
 use Rattle.runs.specs.declared.calls.Call.{Call}
-use Rattle.runs.specs.declared.calls.Answer.TheVariants.{Refused}
 use Rattle.runs.specs.State.{State, opened}
 use Rattle.runs.specs.Replies.{open_reply, open_next, speak_reply}
 use Rattle.runs.specs.Runs.{reply, next, Entry, Ran, after, answers, entries}
 
 -- a refused call leaves all as it was
 abbrev pub RefusedLaw : Type 0
-RefusedLaw = (size : ℕ) (st : State) (c : Call) (e : Refusal) → reply size st c ≡ Refused e → next size st c ≡ st
+RefusedLaw = (size : ℕ) (st : State) (c : Call) (e : Refusal) → reply size st c ≡ Err e → next size st c ≡ st
 
 -- an accepted open leaves a floor just opened, whose rogues are a suspect set; a refused one leaves all as it was
 pub record Opens (N : Network) (rogues bits : ℕ) (st : State) : Type 0 where

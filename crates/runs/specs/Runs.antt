@@ -3,20 +3,24 @@ use Rattle.std.specs.Prelude.{◌≡◌, ℕ, ◌+◌, Bool, false, cond, ◌||�
 use Rattle.sites.specs.declared.refusal.Refusal.{Refusal}
 use Rattle.runs.specs.declared.calls.Call.{Call}
 use Rattle.runs.specs.declared.calls.Call.TheVariants.{Transmit, Speak, Turn, Held, Decision, Recalled}
-use Rattle.runs.specs.declared.calls.Answer.{Answer}
-use Rattle.runs.specs.declared.calls.Answer.TheVariants.{Count, Bit, Refused}
+use Rattle.runs.specs.declared.calls.Value.{Value}
+use Rattle.runs.specs.declared.calls.Value.TheVariants.{Count, Bit}
 use Rattle.runs.specs.State.{State}
 use Rattle.runs.specs.Replies.{transmit_reply, transmit_next, speak_reply, speak_next, turn_reply, turn_next, held_reply, decision_reply, recalled_reply}
 
 -- ---- one call
 
+-- what a call answers
+abbrev pub Answer : Type 0
+Answer = Result Value Refusal
+
 abbrev pub counted : Result ℕ Refusal → Answer
-counted (Ok k) = Count k
-counted (Err e) = Refused e
+counted (Ok k) = Ok (Count k)
+counted (Err e) = Err e
 
 abbrev pub told : Result Bool Refusal → Answer
-told (Ok b) = Bit b
-told (Err e) = Refused e
+told (Ok b) = Ok (Bit b)
+told (Err e) = Err e
 
 -- what a call answers
 abbrev pub reply : ℕ → State → Call → Answer
@@ -70,9 +74,9 @@ entries (c ∷ cs) (a ∷ rs) = record { call = c; answer = a } ∷ entries cs r
 abbrev pub turn_answer : Call → Answer → List ℕ
 turn_answer (Transmit s w) a = []
 turn_answer (Speak s) a = []
-turn_answer Turn (Count k) = k ∷ []
-turn_answer Turn (Bit b) = []
-turn_answer Turn (Refused e) = []
+turn_answer Turn (Ok (Count k)) = k ∷ []
+turn_answer Turn (Ok (Bit b)) = []
+turn_answer Turn (Err e) = []
 turn_answer (Held s) a = []
 turn_answer (Decision s) a = []
 turn_answer (Recalled s w) a = []
@@ -88,12 +92,12 @@ accepted_turns es = length (turn_answers es)
 -- whether v has spoken in this round after a call, where before tells whether it had before the call: an accepted turn begins another round
 abbrev pub spoke_then : ℕ → Bool → Call → Answer → Bool
 spoke_then v before (Transmit s w) a = before
-spoke_then v before (Speak s) (Count k) = s == v || before
-spoke_then v before (Speak s) (Bit b) = before
-spoke_then v before (Speak s) (Refused e) = before
-spoke_then v before Turn (Count k) = false
-spoke_then v before Turn (Bit b) = before
-spoke_then v before Turn (Refused e) = before
+spoke_then v before (Speak s) (Ok (Count k)) = s == v || before
+spoke_then v before (Speak s) (Ok (Bit b)) = before
+spoke_then v before (Speak s) (Err e) = before
+spoke_then v before Turn (Ok (Count k)) = false
+spoke_then v before Turn (Ok (Bit b)) = before
+spoke_then v before Turn (Err e) = before
 spoke_then v before (Held s) a = before
 spoke_then v before (Decision s) a = before
 spoke_then v before (Recalled s w) a = before
@@ -108,9 +112,9 @@ has_spoken es v = has_spoken_from false es v
 
 -- the word that a call was let to put for site u
 abbrev pub let_put : ℕ → Call → Answer → List ℕ
-let_put u (Transmit s w) (Count k) = cond (s == u) (w ∷ []) []
-let_put u (Transmit s w) (Bit b) = []
-let_put u (Transmit s w) (Refused e) = []
+let_put u (Transmit s w) (Ok (Count k)) = cond (s == u) (w ∷ []) []
+let_put u (Transmit s w) (Ok (Bit b)) = []
+let_put u (Transmit s w) (Err e) = []
 let_put u (Speak s) a = []
 let_put u Turn a = []
 let_put u (Held s) a = []

@@ -1,7 +1,7 @@
 use sites::Refusal;
 
 /// A call on an opened floor, with its arguments.
-#[derive(Clone, Copy)]
+#[derive(Clone, Copy, PartialEq, Eq, Debug)]
 pub enum Call {
     /// Puts a word for a rogue.
     Transmit { site: u8, word: u32 },
@@ -17,13 +17,14 @@ pub enum Call {
     Recalled { site: u8, word: u32 },
 }
 
-/// What a call answers.
-#[derive(Clone, Copy)]
-pub enum Answer {
+/// What an accepted call answers.
+#[derive(Clone, Copy, PartialEq, Eq, Debug)]
+pub enum Value {
     /// A lane's new length, a number of words or a number of turns.
     Count(usize),
     /// The bit that was asked for.
     Bit(bool),
-    /// The call was refused and changed nothing.
-    Refused(Refusal),
 }
+
+/// What a call answers. A refused one changed nothing.
+pub type Answer = Result<Value, Refusal>;

@@ -2,15 +2,13 @@
 
 mod beginning;
 mod done;
-mod in_round;
-mod in_weighing;
+mod end_numbers;
+mod end_site;
 mod numbers;
 mod round;
-mod round_numbers;
 mod speaking;
 mod taking;
 mod weighing;
-mod weighing_numbers;
 mod weighing_state;
 
 pub use done::Done;

@@ -1,14 +1,9 @@
 ghost use Rattle.std.specs.Prelude.{◌≡◌};
 ghost use Rattle.plans.specs.Plans.{network};
-ghost use Rattle.airs.specs.Lanes.{lane};
-ghost use Rattle.notebooks.specs.Floods.{heard_in};
-ghost use Rattle.notebooks.specs.Notebooks.{take_round};
-ghost use Rattle.tables.specs.Tables.{table_network};
 ghost use Rattle.single_end.specs.Ends.{taken};
 ghost use Rattle.single_end.specs.States.{seen_round};
 ghost use Rattle.single_end.specs.Calls.{seen_taken, Takes};
 
-use crate::beginning::has_size;
 use crate::round::Round;
 use crate::weighing_state::Weighing;
 use airs::Air;
@@ -16,7 +11,6 @@ use plans::Plan;
 use rounds::Notebook;
 use site_plans::SitePlan;
 use sites::Refusal;
-use tables::PathTable;
 
 /// What taking a round leads to.
 pub enum Taken {
@@ -31,39 +25,14 @@ impl Round {
     fn on(self) -> Taken
         ensures { seen_taken result ≡ taken (seen_round self) }
     {
-        let Round {
-            site,
-            bit,
-            phase,
-            round,
-            n,
-            f,
-        } = self;
-        if round < n as usize - 1 {
-            let round = round + 1;
+        let Round { end, round } = self;
+        if round < end.n as usize - 1 {
             return Taken::Round(Round {
-                site,
-                bit,
-                phase,
-                round,
-                n,
-                f,
+                end,
+                round: round + 1,
             });
         }
-        Taken::Weighing(Weighing {
-            site,
-            bit,
-            phase,
-            n,
-            f,
-        })
-    }
-
-    // Hears the neighbours of the table's site.
-    fn hear<A: Air>(&self, air: &A, table: &PathTable, notebook: &mut Notebook)
-        ensures { notebook.new.words ≡ take_round (table_network table.now) table.now.site self.now.round (heard_in (lane (A.lanes air.now))) notebook.old.words }
-    {
-        notebook.take_round(air, table, self.round);
+        Taken::Weighing(Weighing { end })
     }
 
     /// Hears the neighbours, the first round of a phase with an empty notebook, and gives the next round or, after round
@@ -77,11 +46,12 @@ impl Round {
     ) -> Result<Taken, (Refusal, Round)>
         ensures { Takes (network plan.now) (A.lanes air.now) (seen_round self) notebook.old.words notebook.new.words result }
     {
-        if !has_size(plan, self.n, self.f) {
+        if !self.end.fits(plan) {
             return Err((Refusal::OtherPlan, self));
         }
         let base = SitePlan { plan: *plan };
-        self.hear(air, &base.table(self.site), notebook);
+        let table = base.table(self.end.site);
+        notebook.take_round(air, &table, self.round);
         Ok(self.on())
     }
 }

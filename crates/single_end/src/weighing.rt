@@ -4,7 +4,6 @@ ghost use Rattle.single_end.specs.Ends.{gone_on};
 ghost use Rattle.single_end.specs.States.{seen_weighing};
 ghost use Rattle.single_end.specs.Calls.{seen_weighed, Weighs};
 
-use crate::beginning::has_size;
 use crate::done::Done;
 use crate::round::Round;
 use crate::weighing_state::Weighing;
@@ -26,22 +25,11 @@ impl Weighing {
     fn on(self, phases: usize, bit: bool) -> Weighed
         ensures { seen_weighed result ≡ gone_on phases (seen_weighing self) bit }
     {
-        let Weighing {
-            site,
-            bit: _,
-            phase,
-            n,
-            f,
-        } = self;
-        if phase < phases.saturating_sub(1) {
-            return Weighed::Round(Round {
-                site,
-                bit,
-                phase: phase + 1,
-                round: 1,
-                n,
-                f,
-            });
+        let Weighing { mut end } = self;
+        if end.phase < phases.saturating_sub(1) {
+            end.bit = bit;
+            end.phase += 1;
+            return Weighed::Round(Round { end, round: 1 });
         }
         Weighed::Done(Done { bit })
     }
@@ -51,15 +39,15 @@ impl Weighing {
     pub fn weigh(self, plan: &Plan, notebook: &Notebook) -> Result<Weighed, (Refusal, Weighing)>
         ensures { Weighs (network plan.now) (seen_weighing self) notebook.now.words result }
     {
-        if !has_size(plan, self.n, self.f) {
+        if !self.end.fits(plan) {
             return Err((Refusal::OtherPlan, self));
         }
         let base = SitePlan { plan: *plan };
         let bit = notebook.weigh(
             &base,
-            &base.table(self.site),
-            base.suspect(self.phase),
-            self.bit,
+            &base.table(self.end.site),
+            base.suspect(self.end.phase),
+            self.end.bit,
         );
         Ok(self.on(base.phases(), bit))
     }

@@ -4,7 +4,7 @@ use mathlib.Core.Path.{fun_ext}
 use Rattle.theory.specs.Network.{Network}
 use Rattle.theory.specs.Flooding.{expected, expected_up_to}
 use Rattle.notebooks.specs.Floods.{flood_word}
-use Rattle.notebooks.specs.Notebooks.{flood_words, note_round, noted_words, noted_round, owed_by_bits, listed, place, bit_at, or_one, noted, told_by}
+use Rattle.notebooks.specs.Notebooks.{flood_words, note_round, round_words, owed_words, noted_words, noted_round, owed_by_bits, listed, place, bit_at, or_one, noted, told_by}
 use Rattle.tables.specs.Tables.{table_network, table_level, table_paths}
 use Rattle.tables.specs.declared.table.PathTable.{PathTable}
 use Rattle.site_plans.specs.Tables.{Fits}
@@ -20,6 +20,16 @@ module _ (N : Network) (s : ℕ) (t : PathTable) (fits : Fits N s t) (below : s 
   round_fits k book =
       ap (noted_words book (length (table_paths t (k - 1)))) (fits.levels below k)
       ∙ ap (λ (l : List (List ℕ)). noted_words book (length l) (expected N s k)) (up_to (k - 1))
+
+  words_fit : (k : ℕ) (book : List ℕ) → round_words (table_network t) t.site k book ≡ round_words N s k book
+  unfolding round_words
+  words_fit k book =
+      ap (λ (l : List (List ℕ)). take (length l) (drop (length (table_paths t (k - 1))) book)) (fits.levels below k)
+      ∙ ap (λ (l : List (List ℕ)). take (length (expected N s k)) (drop (length l) book)) (up_to (k - 1))
+
+  pub owed_words_fit : (r : ℕ) (held : Bool) (book : List ℕ) → owed_words (table_network t) t.site r held book ≡ owed_words N s r held book
+  unfolding owed_words
+  owed_words_fit r held book = ap (λ (l : List ℕ). cond (eqb r 1) (flood_word (record { path = []; bit = held }) ∷ []) l) (words_fit (r - 1) book)
 
   pub owed_fits : (r : ℕ) (held : Bool) (book : List ℕ) → owed_by_bits (table_network t) t.site r held book ≡ owed_by_bits N s r held book
   unfolding owed_by_bits

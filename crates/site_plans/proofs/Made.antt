@@ -1,7 +1,9 @@
 -- How a site's table is made, and the suspect set of a phase.
-use Rattle.std.proofs.Common.{◌≡◌, ℕ, ◌≤◌, Bool, true, false, cond, ltb, length, get_or, Some, None, sym, refl, ap, ◌∙◌, arith}
+use Rattle.std.proofs.Common.{◌≡◌, ℕ, ◌≤◌, Bool, true, false, cond, ltb, length, get_or, Some, None, Option, sym, refl, ap, ◌∙◌, arith}
 use Rattle.std.proofs.lemmas.List.{get_or_past}
 use Rattle.std.proofs.lemmas.Bool.Decides.{nat_tests}
+use Rattle.std.specs.Prelude.{option_map, unwrap_or}
+use Rattle.sites.specs.declared.mask.SiteMask.{SiteMask}
 use Rattle.sites.specs.Suspects.{suspects}
 use Rattle.theory.specs.Network.{Network}
 use Rattle.theory.specs.Flooding.{expected}
@@ -44,12 +46,18 @@ none_cond : (b : Bool) (y : ℕ) → None ≡ cond b (Some y) None → b ≡ fal
 none_cond true y e = absurd (let z : ◌≡◌ {A = ℕ} 0 1 = cc in omega arith)
 none_cond false y e = refl
 
-pub suspect_some : (N : Network) (p x : ℕ) → Some x ≡ cond (ltb p (length (suspects N.n N.f))) (Some (get_or (suspects N.n N.f) p 0)) None → x ≡ suspect N p
+suspect_some : (N : Network) (p x : ℕ) → Some x ≡ cond (ltb p (length (suspects N.n N.f))) (Some (get_or (suspects N.n N.f) p 0)) None → x ≡ suspect N p
 unfolding suspect
 suspect_some N p x e = some_cond (ltb p (length (suspects N.n N.f))) x (get_or (suspects N.n N.f) p 0) e
 
-pub suspect_none : (N : Network) (p : ℕ) → None ≡ cond (ltb p (length (suspects N.n N.f))) (Some (get_or (suspects N.n N.f) p 0)) None → 0 ≡ suspect N p
+suspect_none : (N : Network) (p : ℕ) → None ≡ cond (ltb p (length (suspects N.n N.f))) (Some (get_or (suspects N.n N.f) p 0)) None → 0 ≡ suspect N p
 unfolding suspect
 suspect_none N p e =
     let past : length (suspects N.n N.f) ≤ p = let b = none_cond (ltb p (length (suspects N.n N.f))) _ e in grind (arith, nat_tests) in
     sym (get_or_past (suspects N.n N.f) p 0 past)
+
+-- of the plan's answer, the empty set in the place of none
+pub suspect_or : (N : Network) (p : ℕ) (o : Option SiteMask) → option_map (λ (m : SiteMask). m.bits) o ≡ cond (ltb p (length (suspects N.n N.f))) (Some (get_or (suspects N.n N.f) p 0)) None →
+    (unwrap_or o (record { bits = 0 })).bits ≡ suspect N p
+suspect_or N p (Some m) e = suspect_some N p m.bits e
+suspect_or N p None e = suspect_none N p e

@@ -1,4 +1,4 @@
-ghost use Rattle.std.specs.Prelude.{◌≡◌, ◌≤◌};
+ghost use Rattle.std.specs.Prelude.{◌≡◌};
 ghost use Rattle.theory.specs.Runs.{phases as phases_of, suspect as suspect_of};
 ghost use Rattle.site_plans.specs.Tables.{site_network, Fits};
 
@@ -25,9 +25,6 @@ impl SitePlan {
     pub fn suspect(&self, phase: usize) -> SiteMask
         ensures { result.bits ≡ suspect_of (site_network self.now) phase }
     {
-        match self.plan.suspect(phase) {
-            Some(set) => set,
-            None => SiteMask { bits: 0 },
-        }
+        self.plan.suspect(phase).unwrap_or(SiteMask { bits: 0 })
     }
 }

@@ -1,5 +1,5 @@
 -- Steps of a loop over positions, and what the tests tell of each position.
-use Rattle.std.proofs.Common.{◌≡◌, ℕ, zero, suc, ◌+◌, ◌-◌, ◌<◌, ◌≤◌, Bool, true, false, is_some, Some, None, Option, sym, refl, ◌∙◌, subst, ⊎_elim, arith}
+use Rattle.std.proofs.Common.{◌≡◌, ℕ, zero, suc, ◌+◌, ◌-◌, ◌<◌, ◌≤◌, Bool, true, false, is_some, Some, None, Option, IsTrue, MatchOption, ◌↔◌, ap, sym, refl, ◌∙◌, subst, ⊎_elim, arith}
 use Rattle.std.proofs.lemmas.Bool.{cases_Bool, cases_eq, cond-true, cond-false, both_ways}
 use Rattle.sites.specs.Positions.{first_from, all_from, any_from}
 
@@ -84,3 +84,35 @@ some_at p i (suc n) e =
     (λ f. let q = some_at p (i + 1) n (subst (λ (o : Option ℕ). is_some o ≡ true) (cond-false (p i) (Some i) (first_from p (i + 1) n) f) e) in
     (q.0, omega arith, omega arith, q.3))
     (cases_Bool (p i))
+
+pub no_first : (p : ℕ → Bool) (i n : ℕ) → ((k : ℕ) → i ≤ k → k < i + n → p k ≡ false) → first_from p i n ≡ None
+no_first p i zero h = refl
+no_first p i (suc n) h =
+    cond-false (p i) (Some i) (first_from p (i + 1) n) (h i (omega arith) (omega arith)) ∙ no_first p (i + 1) n (λ k lo hi. h k (omega arith) (omega arith))
+
+pub this_first : (p : ℕ → Bool) (i n m : ℕ) → i ≤ m → m < i + n → p m ≡ true → ((k : ℕ) → i ≤ k → k < m → p k ≡ false) → first_from p i n ≡ Some m
+this_first p i zero m lo hi e h = absurd (omega arith)
+this_first p i (suc n) m lo hi e h =
+    ⊎_elim
+    (λ s. cond-true (p i) (Some i) (first_from p (i + 1) n) (subst (λ (x : ℕ). p x ≡ true) (sym s) e) ∙ ap (λ (x : ℕ). Some x) s)
+    (λ s. cond-false (p i) (Some i) (first_from p (i + 1) n) (h i (omega arith) (omega arith)) ∙ this_first p (i + 1) n m (omega arith) (omega arith) e (λ k l r. h k (omega arith) r))
+    (cases_eq i m)
+
+-- ---- what a chain of an iterator's methods tells, as a test over positions
+
+-- a test that is true just where each position passes
+pub all_is : (p : ℕ → Bool) (i n : ℕ) (r : Bool) → (IsTrue r ↔ ((k : ℕ) → i ≤ k → k < i + n → IsTrue (p k))) → r ≡ all_from p i n
+all_is p i n true h = sym (all_by p i n (λ k lo hi. h.0 refl k lo hi))
+all_is p i n false h = ⊎_elim
+    (λ t. absurd (both_ways false refl (h.1 (λ k lo hi. all_at p i n t k lo hi))))
+    (λ f. sym f)
+    (cases_Bool (all_from p i n))
+
+-- the same from the first position on
+pub each_is : (p : ℕ → Bool) (n : ℕ) (r : Bool) → (IsTrue r ↔ ((k : ℕ) → k < n → IsTrue (p k))) → r ≡ all_from p 0 n
+each_is p n r h = all_is p 0 n r (λ t k lo hi. h.0 t k (omega arith), λ f. h.1 (λ k hi. f k (omega arith) (omega arith)))
+
+-- a search that gives the first position that passes
+pub first_found : (p : ℕ → Bool) (i n : ℕ) (r : Option ℕ) → MatchOption r ((k : ℕ) → i ≤ k → k < i + n → p k ≡ false) (λ m. (i ≤ m) × (m < i + n) × (p m ≡ true) × ((k : ℕ) → i ≤ k → k < m → p k ≡ false)) → r ≡ first_from p i n
+first_found p i n None h = sym (no_first p i n h)
+first_found p i n (Some m) h = sym (this_first p i n m h.0 h.1 h.2 h.3)

@@ -1,6 +1,9 @@
 ghost use Rattle.std.specs.Prelude.{◌≡◌};
 ghost use Rattle.sites.specs.Refusals.{number_of};
 
+use std::error::Error;
+use std::fmt;
+
 /// Why a call was refused, in the order of the table: where several apply, the upper one answers.
 #[derive(Clone, Copy, PartialEq, Eq, Debug)]
 pub enum Refusal {
@@ -54,3 +57,33 @@ impl Refusal {
         *self as u8
     }
 }
+
+impl fmt::Display for Refusal {
+    fn fmt<W: fmt::Write>(&self, f: &mut fmt::Formatter<W>) -> fmt::Result {
+        f.write_str(match self {
+            Refusal::SheetSize => "a sheet has 1 to 1,024 words",
+            Refusal::Head => "the first word is no lawful head",
+            Refusal::Kind =>
+                "a later word is no edge, route or fan path, or its kind is below the kind before",
+            Refusal::Edge => "an edge has bad bits or sites, or does not ascend",
+            Refusal::Path => "not a lawful path, or a site not below n, or a missing edge",
+            Refusal::Fan => "a fan is short, its ends differ, or its paths share another site",
+            Refusal::NoRoute => "no route for this suspect set",
+            Refusal::NoFan => "no fan for this suspect set",
+            Refusal::MaskSite => "a mask names a site not below n",
+            Refusal::ManyRogues => "more than f rogues",
+            Refusal::OtherPlan => "the plan's n or f is not the one at the start",
+            Refusal::NoSite => "no such site",
+            Refusal::SoundSite => "the site is sound",
+            Refusal::RogueSite => "the site is a rogue",
+            Refusal::Over => "the last phase is over",
+            Refusal::Spoken => "the site has spoken in this round",
+            Refusal::LaneFull => "the lane cannot take what is put",
+            Refusal::Unspoken => "a sound site has not spoken",
+            Refusal::Undecided => "the last phase is not over",
+            Refusal::Unheard => "the path is not expected there, or not yet heard",
+        })
+    }
+}
+
+impl Error for Refusal {}

@@ -1,34 +1,26 @@
 -- A path is found by its word.
-use Rattle.std.proofs.Common.{◌≡◌, ℕ, zero, suc, ◌+◌, ◌<◌, ◌≤◌, Bool, true, false, cond, ◌||◌, eqb, leb, List, [], ◌∷◌, map, length, get_or, Some, None, Option, sym, refl, ap, ◌∙◌, inl, inr, ⊎_elim, add-one, arith}
-use Rattle.std.specs.Option.{option_map}
-use Rattle.std.proofs.lemmas.Bool.{cases_Bool, cases_lt, eq-eqb, ne_eqb, both_ways, and_parts, and_from, leb-true, le-leb}
+use Rattle.std.proofs.Common.{◌≡◌, ℕ, suc, ◌+◌, ◌<◌, ◌≤◌, Bool, true, false, cond, ◌||◌, not, eqb, ltb, leb, List, [], ◌∷◌, map, length, Some, None, Ok, Err, Result, sym, refl, ap, ◌∙◌, inl, inr, ⊎_elim, arith}
+use Rattle.std.specs.Result.{result_ok}
+use Rattle.std.specs.List.{position, position_or_len}
+use Rattle.std.proofs.lemmas.Bool.{cases_Bool, cases_lt, lt-ltb, eq-eqb, ne_eqb, both_ways, and_parts, and_from, leb-true, le-leb}
+use Rattle.std.proofs.lemmas.Bool.Decides.{nat_tests}
 use Rattle.std.proofs.lemmas.List.{length-map}
-use Rattle.sites.specs.Positions.{first_from}
 use Rattle.sites.specs.Lists.{In, same_path}
 use Rattle.sites.proofs.Lists.{same_path_refl, same_path_true}
 use Rattle.words.specs.declared.kind.Kind.TheVariants.{Flood}
 use Rattle.words.specs.Kinds.{suits}
 use Rattle.words.specs.Paths.{path?}
-use Rattle.words.specs.Words.{Meaning, lawful?, word_of}
+use Rattle.words.specs.Words.{Meaning, lawful?, word_of, meaning_of, MakesWord}
+use Rattle.words.specs.declared.path.PathWord.{PathWord}
+use Rattle.sites.specs.declared.refusal.Refusal.{Refusal}
 use Rattle.theory.specs.Flooding.{Word}
 use Rattle.notebooks.specs.Floods.{flood_word}
 use Rattle.notebooks.specs.Laws.{Carried}
 use Rattle.notebooks.specs.Notebooks.{listed, place}
 use Rattle.notebooks.proofs.Floods.{flood_one}
-use Rattle.tables.specs.Entries.{path_word, entry_of, no_entry}
+use Rattle.tables.specs.Entries.{path_word, entry_of}
 use Rattle.tables.specs.Tables.{place_in}
 use Rattle.tables.specs.declared.expected_path.ExpectedPath.{ExpectedPath}
-
-shift : (p : ℕ → Bool) (i n : ℕ) → first_from p (i + 1) n ≡ option_map suc (first_from (λ j. p (suc j)) i n)
-shift p i zero = refl
-shift p i (suc n) =
-    ap (λ k. cond (p k) (Some k) (first_from p (i + 1 + 1) n)) (add-one i)
-    ∙ ap (cond (p (suc i)) (Some (suc i))) (shift p (i + 1) n)
-    ∙ sym (out (p (suc i)) (first_from (λ j. p (suc j)) (i + 1) n))
-  where
-    out : (b : Bool) (o : Option ℕ) → option_map suc (cond b (Some i) o) ≡ cond b (Some (suc i)) (option_map suc o)
-    out true o = refl
-    out false o = refl
 
 same_word : (q p : List ℕ) → Carried q → Carried p → eqb (path_word q) (path_word p) ≡ same_path q p
 same_word q p cq cp =
@@ -40,19 +32,32 @@ same_word q p cq cp =
     ∙ sym e)
     (cases_Bool (same_path q p))
 
-place_more : (b : Bool) (o l : Bool) (n : ℕ) → cond b (Some 0) (option_map suc (cond l (Some n) None)) ≡ cond (b || l) (Some (cond b 0 (suc n))) None
-place_more true o l n = refl
-place_more false o true n = refl
-place_more false o false n = refl
+-- as many words differ from a path's word before its place as paths stand there
+before_place : (p : List ℕ) (qs : List (List ℕ)) → Carried p → ((q : List ℕ) → In q qs → Carried q) → position_or_len (λ e. eqb e.word (path_word p)) (map entry_of qs) ≡ place p qs
+before_place p [] cp all = refl
+before_place p (q ∷ qs) cp all =
+    turned (eqb (path_word q) (path_word p)) (position_or_len (λ e. eqb e.word (path_word p)) (map entry_of qs))
+    ∙ ap (λ b. cond b 0 (suc (position_or_len (λ e. eqb e.word (path_word p)) (map entry_of qs)))) (same_word q p (all q (inl refl)) cp)
+    ∙ ap (λ k. cond (same_path q p) 0 (suc k)) (before_place p qs cp (λ x i. all x (inr i)))
+  where
+    turned : (b : Bool) (k : ℕ) → cond (not b) (1 + k) 0 ≡ cond b 0 (suc k)
+    turned true k = refl
+    turned false k = omega arith
 
-pub found_place : (p : List ℕ) (qs : List (List ℕ)) → Carried p → ((q : List ℕ) → In q qs → Carried q) →
-    first_from (λ i. eqb (get_or (map entry_of qs) i no_entry).word (path_word p)) 0 (length qs) ≡ place_in p qs
-found_place p [] cp all = refl
-found_place p (q ∷ qs) cp all =
-    let f : ℕ → Bool = λ i. eqb (get_or (map entry_of (q ∷ qs)) i no_entry).word (path_word p) in
-    ap (cond (f 0) (Some 0)) (shift f 0 (length qs) ∙ ap (option_map suc) (found_place p qs cp (λ x i. all x (inr i))))
-    ∙ ap (λ b. cond b (Some 0) (option_map suc (place_in p qs))) (same_word q p (all q (inl refl)) cp)
-    ∙ place_more (same_path q p) true (listed p qs) (place p qs)
+-- a path is among some where its place is
+listed_place : (p : List ℕ) (qs : List (List ℕ)) → listed p qs ≡ ltb (place p qs) (length qs)
+listed_place p [] = refl
+listed_place p (q ∷ qs) = more (same_path q p) (listed p qs) (place p qs) (length qs) (listed_place p qs)
+  where
+    more : (s l : Bool) (k n : ℕ) → l ≡ ltb k n → (s || l) ≡ ltb (cond s 0 (suc k)) (suc n)
+    more true l k n e = sym (lt-ltb 0 (suc n) (omega arith))
+    more false l k n e = grind (arith, nat_tests)
+
+pub found_place : (p : List ℕ) (qs : List (List ℕ)) → Carried p → ((q : List ℕ) → In q qs → Carried q) → position (λ e. eqb e.word (path_word p)) (map entry_of qs) ≡ place_in p qs
+found_place p qs cp all =
+    ap (λ k. cond (ltb k (length (map entry_of qs))) (Some k) None) (before_place p qs cp all)
+    ∙ ap (λ n. cond (ltb (place p qs) n) (Some (place p qs)) None) (length-map qs entry_of)
+    ∙ ap (λ b. cond b (Some (place p qs)) None) (sym (listed_place p qs))
 
 -- a path that no flood word can carry is not among those that one can
 pub not_listed : (p : List ℕ) (qs : List (List ℕ)) → 5 < length p → ((q : List ℕ) → In q qs → Carried q) → listed p qs ≡ false
@@ -65,19 +70,25 @@ not_listed p (q ∷ qs) long all =
 
 -- ---- the word of a path, where there is one
 
+pub made : (m : Meaning) (r : Result PathWord Refusal) (f : PathWord) → MakesWord m r → Some f ≡ result_ok r → (lawful? m ≡ true) × (meaning_of f ≡ m)
+made m (Ok x) f h e = let same : x ≡ f = cc in (h.0, sym (ap meaning_of same) ∙ h.1)
+made m (Err d) f h e = absurd (let z : ◌≡◌ {A = ℕ} 0 1 = cc in omega arith)
+
+pub not_made : (m : Meaning) (r : Result PathWord Refusal) → MakesWord m r → None ≡ result_ok r → lawful? m ≡ false
+not_made m (Ok x) h e = absurd (let z : ◌≡◌ {A = ℕ} 0 1 = cc in omega arith)
+not_made m (Err d) h e = h.0
+
 carried_from : (p : List ℕ) → lawful? (record { kind = Flood; sites = p; tail = 0 }) ≡ true → Carried p
 carried_from p h =
     let a = and_parts (path? p) (suits Flood (length p) 0) h in
     record { path = a.0; short = leb-true (length p) 5 (and_parts (leb (length p) 5) true a.1).0 }
 
 pub found_by_word : (w : ℕ) (m : Meaning) (p : List ℕ) (qs : List (List ℕ)) → m ≡ record { kind = Flood; sites = p; tail = 0 } → lawful? (record { kind = Flood; sites = p; tail = 0 }) ≡ true →
-    w ≡ word_of m → (es : List ExpectedPath) → es ≡ map entry_of qs → ((q : List ℕ) → In q qs → Carried q) →
-    first_from (λ i. eqb (get_or es i no_entry).word w) 0 (length es) ≡ place_in p qs
+    w ≡ word_of m → (es : List ExpectedPath) → es ≡ map entry_of qs → ((q : List ℕ) → In q qs → Carried q) → position (λ e. eqb e.word w) es ≡ place_in p qs
 unfolding flood_word
 found_by_word w m p qs same lawful is es listed-is all =
-    ap (λ x. first_from (λ i. eqb (get_or es i no_entry).word x) 0 (length es)) (is ∙ ap word_of same)
-    ∙ ap (λ (x : List ExpectedPath). first_from (λ i. eqb (get_or x i no_entry).word (path_word p)) 0 (length x)) listed-is
-    ∙ ap (first_from (λ i. eqb (get_or (map entry_of qs) i no_entry).word (path_word p)) 0) (length-map qs entry_of)
+    ap (λ x. position (λ e. eqb e.word x) es) (is ∙ ap word_of same)
+    ∙ ap (λ (x : List ExpectedPath). position (λ e. eqb e.word (path_word p)) x) listed-is
     ∙ found_place p qs (carried_from p lawful) all
 
 pub no_word : (p : List ℕ) (qs : List (List ℕ)) → path? p ≡ true → lawful? (record { kind = Flood; sites = p; tail = 0 }) ≡ false → ((q : List ℕ) → In q qs → Carried q) → None ≡ place_in p qs

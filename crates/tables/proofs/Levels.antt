@@ -118,12 +118,12 @@ module _ (n : ℕ) (near : List ℕ) (v : ℕ) (few : n ≤ 6) (below : v < n) w
   mine p k = map entry_of (filter ok (after N p k))
 
   record Stands (p : List ℕ) (st : Step) : Type 0 where
-    near_is : (s : ℕ) → s < 6 → in_set st.near s ≡ opens N p s
-    free_is : (s : ℕ) → s < 6 → in_set st.free s ≡ (ltb s n && (not (has s p) && not (eqb s v)))
+    near_is : (s : ℕ) → s < 6 → in_set st.near.bits s ≡ opens N p s
+    free_is : (s : ℕ) → s < 6 → in_set st.free.bits s ≡ (ltb s n && (not (has s p) && not (eqb s v)))
     path_is : st.path ≡ entry_of p
     unit_is : st.unit ≡ unit_at (length p)
 
-  stands_on : (p : List ℕ) (st : Step) (s : ℕ) → Stands p st → length p ≤ 4 → s < 6 → in_set st.free s ≡ true → Stands (p ++ s ∷ []) (gone_on near st s)
+  stands_on : (p : List ℕ) (st : Step) (s : ℕ) → Stands p st → length p ≤ 4 → s < 6 → in_set st.free.bits s ≡ true → Stands (p ++ s ∷ []) (gone_on near st s)
   stands_on p st s h short lt b = record {
     near_is = λ t l. sym (opens_push N p s t);
     free_is = λ t l. ⊎_elim (here t) (there t l) (cases_eq t s);
@@ -139,15 +139,15 @@ module _ (n : ℕ) (near : List ℕ) (v : ℕ) (few : n ≤ 6) (below : v < n) w
         ap (λ x. x / 8) h.unit_is ∙ sym (ap unit_at e);
   }
     where
-      here : (t : ℕ) → t ≡ s → in_set (st.free - 2 ^ s) t ≡ (ltb t n && (not (has t (p ++ s ∷ [])) && not (eqb t v)))
+      here : (t : ℕ) → t ≡ s → in_set (st.free.bits - 2 ^ s) t ≡ (ltb t n && (not (has t (p ++ s ∷ [])) && not (eqb t v)))
       here t e =
-          ap (λ x. in_set (st.free - 2 ^ s) x) e ∙ minus_same st.free s b
+          ap (λ x. in_set (st.free.bits - 2 ^ s) x) e ∙ minus_same st.free.bits s b
           ∙ sym (and_right (ltb t n) (not (has t (p ++ s ∷ [])) && not (eqb t v))
           (and_left (not (has t (p ++ s ∷ []))) (not (eqb t v)) (not_from_true (has t (p ++ s ∷ [])) (has_push t s p ∙ or_true (has t p) (eqb t s) (eq-eqb t s e)))))
 
-      there : (t : ℕ) → t < 6 → (t ≡ s → ⊥) → in_set (st.free - 2 ^ s) t ≡ (ltb t n && (not (has t (p ++ s ∷ [])) && not (eqb t v)))
+      there : (t : ℕ) → t < 6 → (t ≡ s → ⊥) → in_set (st.free.bits - 2 ^ s) t ≡ (ltb t n && (not (has t (p ++ s ∷ [])) && not (eqb t v)))
       there t l ne =
-          minus_other st.free s t b ne ∙ h.free_is t l
+          minus_other st.free.bits s t b ne ∙ h.free_is t l
           ∙ ap (λ x. ltb t n && (not x && not (eqb t v))) (sym (or_false (has t p) (eqb t s) (ne_eqb t s ne)) ∙ sym (has_push t s p))
 
   -- nothing goes on from a path that has v
@@ -165,14 +165,14 @@ module _ (n : ℕ) (near : List ℕ) (v : ℕ) (few : n ≤ 6) (below : v < n) w
   unfolding longer
   step k p st h short lacks more =
       join_short (can_go st) (λ s. walks near v (gone_on near st s) k) n 6 few
-      (λ s l u. and_right (in_set st.near s) (in_set st.free s) (h.free_is s u ∙ and_left (ltb s n) (not (has s p) && not (eqb s v)) (le-ltb s n l)))
+      (λ s l u. and_right (in_set st.near.bits s) (in_set st.free.bits s) (h.free_is s u ∙ and_left (ltb s n) (not (has s p) && not (eqb s v)) (le-ltb s n l)))
       ∙ join_same (can_go st) (goes_on N p) (λ s. walks near v (gone_on near st s) k) (λ s. mine (p ++ s ∷ []) k) 0 n (λ s l u. at s (omega arith))
       ∙ sym (join_map_kept ok entry_of (goes_on N p) (λ s. after N (p ++ s ∷ []) k) 0 n)
       ∙ sym (ap (λ x. map entry_of (filter ok x)) (join_counted (goes_on N p) (λ s. p ++ s ∷ []) (λ q. after N q k) 0 n))
     where
       can_is : (s : ℕ) → s < n → can_go st s ≡ (opens N p s && (true && (not (has s p) && not (eqb s v))))
       can_is s u =
-          ap (λ x. x && in_set st.free s) (h.near_is s (omega arith))
+          ap (λ x. x && in_set st.free.bits s) (h.near_is s (omega arith))
           ∙ ap (λ x. opens N p s && x) (h.free_is s (omega arith))
           ∙ ap (λ x. opens N p s && (x && (not (has s p) && not (eqb s v)))) (lt-ltb s n u)
 
@@ -181,7 +181,7 @@ module _ (n : ℕ) (near : List ℕ) (v : ℕ) (few : n ≤ 6) (below : v < n) w
           ap (λ x. cond x (walks near v (gone_on near st s) k) []) (can_is s u)
           ∙ pick (opens N p s) (has s p) (eqb s v) (walks near v (gone_on near st s) k) (mine (p ++ s ∷ []) k)
           (λ e. void k (p ++ s ∷ []) (has_push v s p ∙ or_true (has v p) (eqb v s) (eq-eqb v s (sym (eqb-true s v e)))))
-          (λ y ne. let free : in_set st.free s ≡ true =
+          (λ y ne. let free : in_set st.free.bits s ≡ true =
           h.free_is s (omega arith)
           ∙ and_from (ltb s n) (not (has s p) && not (eqb s v)) (lt-ltb s n u)
           (and_from (not (has s p)) (not (eqb s v)) (and_parts (opens N p s) (not (has s p)) y).1 (not_from_false (eqb s v) ne)) in

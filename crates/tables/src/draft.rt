@@ -1,14 +1,12 @@
-ghost use Rattle.std.specs.Prelude.{◌≡◌, ℕ, ◌≤◌, length};
+ghost use Rattle.std.specs.Prelude.{◌≡◌, length};
 
 use crate::expected_path::ExpectedPath;
+use arrayvec::ArrayVec;
 
 /// A table that is being written: its paths so far, and how many of them have at most k sites.
-#[derive(Clone, Copy)]
+#[derive(Drop)]
 pub(crate) struct Draft {
-    pub(crate) entries: [ExpectedPath; 325],
-    pub(crate) len: usize,
+    pub(crate) paths: ArrayVec<ExpectedPath, 325>,
     pub(crate) ends: [usize; 6],
-    ghost long: { length entries ≡ 325 },
-    ghost within: { len ≤ 325 },
     ghost six: { length ends ≡ 6 },
 }

@@ -2,6 +2,7 @@
 
 mod draft;
 mod expected_path;
+mod home;
 mod laws;
 mod routing;
 mod step;

@@ -1,71 +1,34 @@
-ghost use Rattle.std.specs.Prelude.{◌≡◌, ℕ, ◌≤◌, map, length, take, nat_eq, slice_index_or};
+ghost use Rattle.std.specs.Prelude.{◌≡◌, ℕ, ◌≤◌, map, length, ◌==◌, position};
 ghost use Rattle.std.specs.Option.{option_map};
 ghost use Rattle.std.specs.List.{slice_get};
-ghost use Rattle.sites.specs.Positions.{first_from};
-ghost use Rattle.words.specs.Words.{MakesWord, sites_of};
-ghost use Rattle.tables.specs.Drafts.{drafted, Lists};
-ghost use Rattle.tables.specs.Entries.{path_word, entry_of, no_entry};
+ghost use Rattle.words.specs.Words.{sites_of};
+ghost use Rattle.tables.specs.Drafts.{Lists};
+ghost use Rattle.tables.specs.Entries.{path_word, entry_of};
 ghost use Rattle.tables.specs.Tables.{network_of, table_paths, place_in};
 
 use crate::draft::Draft;
 use crate::expected_path::ExpectedPath;
+use crate::home::Home;
 use crate::table::PathTable;
 use crate::wiring::Wiring;
-use sites::Refusal;
 use words::{Kind, Path, PathWord};
 
 // The paths that a site expects.
 fn draft_of(wiring: &Wiring, site: u8) -> Draft
-    ensures lists { Lists wiring.now.n wiring.now.near site 5 result }
-    ensures len { result.len ≡ length (drafted result) }
+    ensures { Lists wiring.now.n wiring.now.near site 5 result }
 {
     let mut draft = Draft::new();
     if site < wiring.n {
-        draft.fill(wiring, site);
+        draft.fill(&Home { wiring, site });
     }
     draft
 }
 
-// A number of sites, or 5 where it is more: no path that a site expects has more.
-fn at_most_five(k: usize) -> usize
-    ensures same { k ≤ 5 → result ≡ k }
-    ensures five { 5 ≤ k → result ≡ 5 }
-{
-    k.min(5)
-}
-
-// So many entries from the first on.
-fn first_entries(entries: &[ExpectedPath], count: usize) -> &[ExpectedPath]
-    requires { count ≤ length entries.now }
-    ensures { result.now ≡ take count entries.now }
-{
-    &entries[0..count]
-}
-
-// The flood word, with bit 0, of an entry's path.
-fn word_of(entry: &ExpectedPath) -> u32
-    ensures { result ≡ entry.now.word }
-{
-    entry.word
-}
-
-// A path with bit 0, as a flood word carries it; refused for a path of six sites, which none does.
-fn as_flood(path: &Path) -> Result<PathWord, Refusal>
-    ensures { MakesWord (record { kind = Kind.Flood; sites = sites_of path.now; tail = 0 }) result }
-{
-    PathWord::new(Kind::Flood, *path, 0)
-}
-
 // The place of the first entry with a word.
 fn find(entries: &[ExpectedPath], word: u32) -> Option<usize>
-    ensures { result ≡ first_from (λ i. nat_eq (slice_index_or entries.now i no_entry).word word) 0 (length entries.now) }
+    ensures { result ≡ position (λ e. e.word == word) entries.now }
 {
-    for i in 0..entries.len() {
-        if entries[i].word == word {
-            return Some(i);
-        }
-    }
-    None
+    entries.iter().position(|entry| entry.word == word)
 }
 
 impl PathTable {
@@ -75,13 +38,13 @@ impl PathTable {
         ensures site { result.site ≡ site }
     {
         let draft = draft_of(wiring, site);
-        let entries = draft.entries;
-        let ends = draft.ends;
+        let mut entries = [ExpectedPath::default(); 325];
+        entries[..draft.paths.len()].copy_from_slice(draft.paths.as_slice());
         PathTable {
             wiring: *wiring,
             site,
             entries,
-            ends,
+            ends: draft.ends,
         }
     }
 
@@ -105,34 +68,28 @@ impl PathTable {
         ensures value { result ≡ length (table_paths self.now k) }
         ensures most { result ≤ 325 }
     {
-        self.ends[at_most_five(k)]
+        self.ends[k.min(5)]
     }
 
     /// The paths of at most k sites, in notebook order.
     pub fn up_to(&self, k: usize) -> &[ExpectedPath]
         ensures { result.now ≡ map entry_of (table_paths self.now k) }
     {
-        first_entries(&self.entries, self.count(k))
+        &self.entries[..self.count(k)]
     }
 
     /// The flood word, with bit 0, of the path at a place of the notebook; none past the last path.
     pub fn word_at(&self, place: usize) -> Option<u32>
         ensures { result ≡ option_map path_word (slice_get (table_paths self.now 5) place) }
     {
-        if place < self.count(5) {
-            Some(word_of(&self.entries[place]))
-        } else {
-            None
-        }
+        self.up_to(5).get(place).map(|entry| entry.word)
     }
 
     /// The place in the notebook of a path of at most k sites; none where the site does not expect it.
     pub fn position(&self, path: &Path, k: usize) -> Option<usize>
         ensures { result ≡ place_in (sites_of path.now) (table_paths self.now k) }
     {
-        let Ok(flood) = as_flood(path) else {
-            return None;
-        };
+        let flood = PathWord::new(Kind::Flood, *path, 0).ok()?;
         find(self.up_to(k), flood.write())
     }
 }

@@ -1,18 +1,10 @@
-ghost use Rattle.std.specs.Prelude.{◌≡◌, ◌+◌, ◌^◌, ◌<◌};
+ghost use Rattle.std.specs.Prelude.{◌≡◌};
 ghost use Rattle.sites.specs.Sets.{mask_of};
 ghost use Rattle.tables.specs.Wirings.{SameEdges};
 ghost use Rattle.tables.specs.Tables.{network_of};
 
 use crate::routing::Routing;
 use crate::wiring::Wiring;
-
-// A set with one more site, which is above all of its sites.
-fn with_site(mask: u32, site: u8) -> u32
-    requires { (site < 6) × (mask < 2 ^ site) }
-    ensures { result ≡ mask + 2 ^ site }
-{
-    mask + (1 << site)
-}
 
 // The sites below n that hear a site.
 fn hearers<P: Routing>(plan: &P, site: u8) -> u32
@@ -21,7 +13,7 @@ fn hearers<P: Routing>(plan: &P, site: u8) -> u32
     let mut mask = 0;
     for s in 0..plan.site_count() {
         if plan.are_joined(site, s) {
-            mask = with_site(mask, s);
+            mask += 1 << s;
         }
     }
     mask
@@ -32,11 +24,13 @@ impl Wiring {
     pub fn of<P: Routing>(plan: &P) -> Wiring
         ensures { SameEdges (P.network plan.now) (network_of result) }
     {
-        let n = plan.site_count();
         let mut near = [0; 6];
-        for u in 0..n {
-            near[u as usize] = hearers(plan, u);
+        for (u, mask) in near.iter_mut().enumerate() {
+            *mask = hearers(plan, u as u8);
         }
-        Wiring { n, near }
+        Wiring {
+            n: plan.site_count(),
+            near,
+        }
     }
 }

@@ -1,10 +1,11 @@
 -- Words and what they mean: there and back.
-use Rattle.std.proofs.Common.{◌≡◌, ℕ, ◌+◌, ◌-◌, ◌*◌, ◌/◌, ◌%◌, ◌^◌, ◌<◌, ◌≤◌, Bool, true, false, ◌&&◌, eqb, ltb, leb, List, [], ◌∷◌, length, get_or, take, Some, None, Option, sym, refl, ap, ◌∙◌, subst, ⊎_elim, arith}
-use Rattle.std.proofs.lemmas.Bool.{cases_lt, cases_Bool, ltb-true, eqb-true, eq-eqb, leb-true, and_parts, and_from, cond-true, cond-false}
-use Rattle.std.proofs.lemmas.List.{get_or_past, get_or-take, length-take-le}
+use Rattle.std.proofs.Common.{◌≡◌, ℕ, ◌+◌, ◌-◌, ◌*◌, ◌/◌, ◌%◌, ◌^◌, ◌<◌, ◌≤◌, Bool, true, false, ◌&&◌, eqb, ltb, leb, List, [], ◌∷◌, length, get_or, take, bit_or, fold, Contains, Some, None, Option, IsTrue, ◌↔◌, sym, refl, ap, ◌∙◌, subst, ⊎_elim, arith}
+use Rattle.std.proofs.lemmas.Bool.{cases_lt, cases_Bool, ltb-true, lt-ltb, eqb-true, eq-eqb, ne_eqb, leb-true, and_parts, and_from, not_from_true, not_from_false, both_ways, cond-true, cond-false}
+use Rattle.std.proofs.lemmas.List.{get_or_past, get_or-take, get_or_default, length-take-le}
+use Rattle.std.proofs.lemmas.Nat.{or_shifted}
 use Rattle.std.proofs.lemmas.Bool.Decides.{nat_tests}
 use Rattle.sites.specs.Positions.{all_from}
-use Rattle.sites.proofs.Positions.{all_at}
+use Rattle.sites.proofs.Positions.{all_at, all_by, each_is}
 use Rattle.words.specs.declared.kind.Kind.{Kind}
 use Rattle.words.specs.declared.kind.Kind.TheVariants.{Flood, Route, Fan}
 use Rattle.words.specs.Paths.{fresh_at, site_ok, path?, zero_from}
@@ -53,6 +54,22 @@ packed_padded kind xs n tail h z =
     let d = same_fields (kind * 8 + length (take n xs)) (take n xs) xs (padded_at xs n h z) in
     let b : with_fields (kind * 8 + length (take n xs)) xs ≡ with_fields (kind * 8 + n) xs = ap (λ (k : ℕ). with_fields (kind * 8 + k) xs) e in
     ap (λ (x : ℕ). x * 128 + tail) (d ∙ b)
+
+-- sites are different just where none stands among those before it
+fresh_from : (s : List ℕ) (k : ℕ) → k < length s → (Contains (take k s) (get_or s k 0) → ⊥) → fresh_at s k ≡ true
+fresh_from s k l none = all_by _ 0 k (λ j lo hi. not_from_false _ (ne_eqb _ _ (λ e.
+    none (j, omega (arith, length-take-le k s (omega arith)), get_or-take k s j _ (omega arith) ∙ get_or_default s j _ 0 (omega arith) ∙ e))))
+
+fresh_back : (s : List ℕ) (k : ℕ) → k < length s → fresh_at s k ≡ true → Contains (take k s) (get_or s k 0) → ⊥
+fresh_back s k l f (j, lt, e) =
+    let m = length-take-le k s (omega arith) in
+    both_ways _ (not_from_true _ (eq-eqb _ _ (sym (get_or_default s j _ 0 (omega arith)) ∙ sym (get_or-take k s j _ (omega arith)) ∙ e))) (all_at _ 0 k f j (omega arith) (omega arith))
+
+pub different : (s : List ℕ) (r : Bool) → (IsTrue r ↔ ((k : ℕ) → k < length s → (get_or s k 0 < 6) × (Contains (take k s) (get_or s k 0) → ⊥))) → r ≡ all_from (site_ok s) 0 (length s)
+different s r h = each_is (site_ok s) (length s) r (
+  λ t k l. let p = h.0 t k l in and_from _ _ (lt-ltb _ _ p.0) (fresh_from s k l p.1),
+  λ f. h.1 (λ k l. let q = and_parts (ltb (get_or s k 0) 6) (fresh_at s k) (f k l) in (ltb-true _ _ q.0, fresh_back s k l q.1)),
+)
 
 -- ---- from a word to its meaning and back
 
@@ -158,6 +175,32 @@ six_rest (a ∷ b ∷ c ∷ d ∷ []) h = refl
 six_rest (a ∷ b ∷ c ∷ d ∷ e ∷ []) h = refl
 six_rest (a ∷ b ∷ c ∷ d ∷ e ∷ f ∷ []) h = refl
 six_rest (a ∷ b ∷ c ∷ d ∷ e ∷ f ∷ g ∷ p) h = absurd (omega arith)
+
+-- ---- six sites, put one by one below what stands above them
+
+abbrev pub put : ℕ → ℕ → ℕ
+put above site = bit_or (above * 8 % 2 ^ 32) site
+
+put_below : (a s : ℕ) → a < 2 ^ 29 → s < 8 → put a s ≡ a * 8 + s
+put_below a s h l = let m : a * 8 % 2 ^ 32 ≡ a * 2 ^ 3 = omega arith in ap (λ (x : ℕ). bit_or x s) m ∙ or_shifted a 3 s l
+
+pub put_all : (top : ℕ) (xs : List ℕ) → length xs ≡ 6 → ((k : ℕ) → k < 6 → get_or xs k 0 < 6) → top < 128 →
+    (fold put top xs ≡ with_fields top xs) × (with_fields top xs < 2 ^ 25)
+put_all top xs n small h =
+    let q : six xs ≡ xs = subst (λ (k : ℕ). take k (six xs) ≡ xs) n (six_front xs (omega arith)) in
+    let a = small 0 (omega arith) in
+    let b = small 1 (omega arith) in
+    let c = small 2 (omega arith) in
+    let d = small 3 (omega arith) in
+    let e = small 4 (omega arith) in
+    let f = small 5 (omega arith) in
+    let p0 = put_below top (get_or xs 0 0) (omega arith) (omega arith) in
+    let p1 = put_below (top * 8 + get_or xs 0 0) (get_or xs 1 0) (omega arith) (omega arith) in
+    let p2 = put_below ((top * 8 + get_or xs 0 0) * 8 + get_or xs 1 0) (get_or xs 2 0) (omega arith) (omega arith) in
+    let p3 = put_below (((top * 8 + get_or xs 0 0) * 8 + get_or xs 1 0) * 8 + get_or xs 2 0) (get_or xs 3 0) (omega arith) (omega arith) in
+    let p4 = put_below ((((top * 8 + get_or xs 0 0) * 8 + get_or xs 1 0) * 8 + get_or xs 2 0) * 8 + get_or xs 3 0) (get_or xs 4 0) (omega arith) (omega arith) in
+    let p5 = put_below (((((top * 8 + get_or xs 0 0) * 8 + get_or xs 1 0) * 8 + get_or xs 2 0) * 8 + get_or xs 3 0) * 8 + get_or xs 4 0) (get_or xs 5 0) (omega arith) (omega arith) in
+    (ap (λ (ys : List ℕ). fold put top ys) (sym q) ∙ rw (p0, p1, p2, p3, p4, p5), omega arith)
 
 -- the parts of a word, from its highest down
 module _ (k n a b c d e f t : ℕ) (hk : k < 16) (hn : n < 8) (ha : a < 8) (hb : b < 8) (hc : c < 8) (hd : d < 8) (he : e < 8) (hf : f < 8) (ht : t < 16) where

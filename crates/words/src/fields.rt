@@ -1,6 +1,8 @@
 ghost use Rattle.std.specs.Prelude.{◌≡◌, ℕ, ◌+◌, ◌-◌, ◌*◌, ◌/◌, ◌%◌, ◌^◌, ◌<◌, length, slice_index};
 ghost use Rattle.words.specs.Layout.{kind_field, path_field, site_fields, with_fields};
 
+use std::array;
+
 /// The kind's number in a word's highest bits, whether or not it is the number of a kind.
 pub fn kind_of(word: u32) -> u32
     ensures { result ≡ kind_field word }
@@ -37,14 +39,7 @@ fn field(word: u32, place: usize) -> u8
 pub(crate) fn sites_in(word: u32) -> [u8; 6]
     ensures { result ≡ site_fields word }
 {
-    [
-        (word / 0x40_0000 % 8) as u8,
-        (word / 0x8_0000 % 8) as u8,
-        (word / 0x1_0000 % 8) as u8,
-        (word / 0x2000 % 8) as u8,
-        (word / 0x400 % 8) as u8,
-        (word / 0x80 % 8) as u8,
-    ]
+    array::from_fn(|place| field(word, place))
 }
 
 // A word from its parts: the kind and the count, six sites, three zero bits and the tail.
@@ -56,13 +51,12 @@ pub(crate) fn packed(top: u32, sites: &[u8; 6], tail: u8) -> u32
 }
 
 // The fields of six sites, below the kind and the count.
-fn joined(top: u32, s: &[u8; 6]) -> u32
-    requires { (top < 128) × (((k : ℕ) → k < 6 → slice_index s.now k < 6)) }
-    ensures value { result ≡ with_fields top s.now }
+fn joined(top: u32, sites: &[u8; 6]) -> u32
+    requires { (top < 128) × (((k : ℕ) → k < 6 → slice_index sites.now k < 6)) }
+    ensures value { result ≡ with_fields top sites.now }
     ensures bound { result < 2 ^ 25 }
 {
-    (((((top * 8 + s[0] as u32) * 8 + s[1] as u32) * 8 + s[2] as u32) * 8 + s[3] as u32) * 8
-        + s[4] as u32)
-        * 8
-        + s[5] as u32
+    sites
+        .iter()
+        .fold(top, |above, site| above << 3 | u32::from(*site))
 }

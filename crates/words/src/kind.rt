@@ -1,13 +1,13 @@
 ghost use Rattle.std.specs.Prelude.{◌≡◌};
 ghost use Rattle.words.specs.Kinds.{kind_number, kind_named, suits};
 
-/// What a path word is for.
+/// What a path word is for, with the number in the word's highest bits.
 #[derive(Clone, Copy, PartialEq, Eq, Debug)]
 pub enum Kind {
     /// A bit that is flooded, with the path that it came along.
-    Flood,
+    Flood = 1,
     /// A route of a sheet.
-    Route,
+    Route = 10,
     /// A path of a fan of a sheet.
-    Fan,
+    Fan = 11,
 }

@@ -5,7 +5,8 @@ ghost use Rattle.words.specs.Paths.{path?, zero_from};
 use crate::kind::Kind;
 
 /// A list of different sites below 6, at most six of them. The places past its end hold 0.
-#[derive(Clone, Copy)]
+// Six fields and how many count, since a path is copied and the engine takes no memory from a heap.
+#[derive(Clone, Copy, PartialEq, Eq, Debug)]
 pub struct Path {
     pub(crate) sites: [u8; 6],
     pub(crate) len: usize,
@@ -16,7 +17,7 @@ pub struct Path {
 }
 
 /// A path with a kind and a tail that suit each other: just what a lawful word holds.
-#[derive(Clone, Copy)]
+#[derive(Clone, Copy, PartialEq, Eq, Debug)]
 pub struct PathWord {
     pub(crate) kind: Kind,
     pub(crate) path: Path,

@@ -27,9 +27,7 @@ impl PathWord {
         ensures alone { IfOk result (λ p. (other : ℕ) → meaning other ≡ meaning word → other ≡ word) }
         ensures examples { WordExamples }
     {
-        let Some(kind) = Kind::named(word / 0x1000_0000) else {
-            return Err(Refusal::Path);
-        };
+        let kind = Kind::try_from(fields::kind_of(word))?;
         let count = (word / 0x200_0000 % 8) as usize;
         let tail = (word % 16) as u8;
         if word / 16 % 8 != 0 || !kind.suits(count, tail) {

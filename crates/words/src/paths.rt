@@ -5,33 +5,16 @@ ghost use Rattle.words.specs.Words.{MakesPath, MakesFrom, sites_of};
 
 use crate::path::Path;
 use sites::Refusal;
-
-// Whether the site at place i stands at no earlier place.
-fn is_fresh(sites: &[u8], i: usize) -> bool
-    requires { i < length sites.now }
-    ensures { result ≡ fresh_at sites.now i }
-{
-    for j in 0..i {
-        if sites[j] == sites[i] {
-            return false;
-        }
-    }
-    true
-}
+use std::fmt;
 
 // Whether some sites are below 6 and differ.
 fn are_different(sites: &[u8]) -> bool
     ensures { result ≡ all_from (site_ok sites.now) 0 (length sites.now) }
 {
-    for i in 0..sites.len() {
-        if sites[i] >= 6 {
-            return false;
-        }
-        if !is_fresh(sites, i) {
-            return false;
-        }
-    }
-    true
+    sites
+        .iter()
+        .enumerate()
+        .all(|(i, site)| *site < 6 && !sites[..i].contains(site))
 }
 
 // Whether the fields from place n on are zero.
@@ -39,12 +22,7 @@ fn is_zero_from(fields: &[u8; 6], n: usize) -> bool
     requires { n ≤ 6 }
     ensures { result ≡ zero_from fields.now n }
 {
-    for i in n..6 {
-        if fields[i] != 0 {
-            return false;
-        }
-    }
-    true
+    fields.iter().skip(n).all(|field| *field == 0)
 }
 
 // Some sites in six fields, with zeros past their end.
@@ -90,5 +68,18 @@ impl Path {
         ensures { result.now ≡ sites_of self.now }
     {
         &self.sites[0..self.len]
+    }
+}
+
+/// Its sites in decimal with dashes between; nothing for the empty path.
+impl fmt::Display for Path {
+    fn fmt<W: fmt::Write>(&self, f: &mut fmt::Formatter<W>) -> fmt::Result {
+        for (i, site) in self.sites().iter().enumerate() {
+            if i > 0 {
+                f.write_str("-")?;
+            }
+            write!(f, "{site}")?;
+        }
+        Ok(())
     }
 }

@@ -1,7 +1,7 @@
-use Rattle.std.proofs.Common.{◌≡◌, ◌+◌, ◌∷◌, ◌++◌, length, take, drop}
+use Rattle.std.proofs.Common.{◌≡◌, ◌++◌, take, drop}
 use Rattle.airs.specs.Boards.{board_lanes}
 use Rattle.airs.specs.Lanes.{lane}
 use Rattle.hosts.proofs.books.write_lane.Given as goal
 
 abbrev pub invariant-loop-k : goal.invariant-loop-k
-invariant-loop-k l = l.words ≡ length (lane (board_lanes l.board) l.site) ∷ take l.k (lane (board_lanes l.board) l.site) ++ drop (l.k + 1) l.initial.words
+invariant-loop-k l = l.room ≡ take l.k (lane (board_lanes l.board) l.site) ++ drop l.k l.initial.room

@@ -1,15 +1,15 @@
-use Rattle.std.proofs.Common.{◌<◌, length, sym, ◌∙◌, arith}
+use Rattle.std.proofs.Common.{◌≡◌, ℕ, ◌<◌, ◌≤◌, true, false, MatchOption, rules, tests}
+use Rattle.std.specs.List.{slice_get}
+use Rattle.std.proofs.lemmas.Iterator.{first_from_Range}
 use Rattle.airs.specs.Lanes.{lane}
-use Rattle.rounds.proofs.Scans.{never_none}
-use Rattle.rounds.proofs.Scans.{low_more}
+use Rattle.rounds.specs.Ears.{stops_at}
+use Rattle.rounds.proofs.Scans.{passed}
 use Rattle.rounds.proofs.hearing.pass.Goals as goal
-use Rattle.rounds.proofs.hearing.pass.Goals.{in-Some+else-word-wanted, in_default}
 
-pub loop-k-preserved : goal.loop-k-preserved
-loop-k-preserved g c =
-    let ls = lane (g.A.Air.lanes c.args.air.now) c.args.site in
-    let lt : c.loop-k.k < length ls = omega (arith, c.count-count.ensures) in
-    elim c.match-at.branch [
-      | in-Some+else-word-wanted w ↦ low_more ls c.loop-k.k c.args.wanted w.in-Some.word c.loop-k.invariant lt w.in-Some.ensures w.if-word-wanted.false
-      | in_default w ↦ absurd (never_none c.loop-k.k ls lt (sym w.in_default.is ∙ c.at.ensures))
-    ]
+pub returns : goal.returns
+returns g c =
+    let ws = lane (g.A.Air.lanes c.args.air.now) c.args.site in
+    let h : MatchOption c.find.result ((k : ℕ) → c.args.start ≤ k → k < c.count-count.result → stops_at c.args.wanted (slice_get ws k) ≡ false)
+    (λ j. (c.args.start ≤ j) × (j < c.count-count.result) × (stops_at c.args.wanted (slice_get ws j) ≡ true) × ((k : ℕ) → c.args.start ≤ k → k < j → stops_at c.args.wanted (slice_get ws k) ≡ false)) =
+    first_from_Range _ _ _ c.find.result (λ x. stops_at c.args.wanted (slice_get ws x) ≡ true) (λ x. stops_at c.args.wanted (slice_get ws x) ≡ false) c.find.ensures.ran (λ x q k. search (rules, tests)) (λ x q k. search (rules, tests)) in
+    passed c.args.wanted ws c.args.start c.unwrap_or.result c.count-count.result c.find.result c.requires c.count-count.ensures h c.unwrap_or.ensures

@@ -1,13 +1,10 @@
-use Rattle.std.proofs.Common.{arith, rules}
-use Rattle.std.proofs.lemmas.Bool.Decides.{nat_tests}
-use Rattle.sites.proofs.Positions.{all_fail, all_pass}
+use Rattle.std.proofs.Common.{rules, ℕ, ◌<◌, length, take, get_or, IsTrue, ◌↔◌, Contains}
+use Rattle.std.proofs.iter.runs.Made.{chains}
+use Rattle.words.proofs.Codec.{different}
 use Rattle.words.proofs.paths.are_different.Goals as goal
 
-pub returns-then-sites-i-ge6 : goal.returns-then-sites-i-ge6
-returns-then-sites-i-ge6 c = search (rules, all_fail)
-
-pub returns-then-not-is_fresh : goal.returns-then-not-is_fresh
-returns-then-not-is_fresh c = search (rules, all_fail)
-
-pub loop-i-preserved : goal.loop-i-preserved
-loop-i-preserved c = grind (arith, nat_tests, all_pass)
+pub returns : goal.returns
+returns c =
+    let s = c.args.sites.now in
+    let h : IsTrue c.all.result ↔ ((k : ℕ) → k < length s → (get_or s k 0 < 6) × (Contains (take k s) (get_or s k 0) → ⊥)) = search (rules, chains) in
+    different s c.all.result h

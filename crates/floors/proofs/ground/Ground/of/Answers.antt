@@ -1,8 +1,11 @@
-use Rattle.std.proofs.Common.{◌≡◌, ◌<◌, true, [], ◌∷◌, map, get_or, refl, arith}
+use Rattle.std.proofs.Common.{rules, ◌≡◌, ℕ, ◌<◌, List, [], length, get_or, ap, ◌∙◌, arith}
+use Rattle.std.proofs.lemmas.List.{get_or-map}
 use Rattle.theory.specs.Flooding.{expected}
-use Rattle.floors.specs.declared.site_plan.SitePlan.{SitePlan}
+use Rattle.tables.specs.declared.table.PathTable.{PathTable}
+use Rattle.site_plans.specs.declared.site_plan.SitePlan.{SitePlan}
+use Rattle.site_plans.proofs.Made.{base_few}
 use Rattle.floors.specs.Tables.{site_network, table_site, table_count, level_at, same_paths}
-use Rattle.floors.proofs.Six.{six_cases, base_few, made_count, made_level}
+use Rattle.floors.proofs.Six.{made_count, made_level}
 use Rattle.floors.proofs.ground.Ground.of.Goals as goal
 
 pub invariant_of-result : goal.invariant_of-result
@@ -11,22 +14,17 @@ invariant_of-result c =
     let N = site_network base in
     let w = c.of-wiring.result in
     let same = c.of-wiring.ensures in
-    let ts = c.of.result ∷ c.of-2.result ∷ c.of-3.result ∷ c.of-4.result ∷ c.of-5.result ∷ c.of-6.result ∷ [] in
+    let ts : List PathTable = c.from_fn-tables.result in
+    let items = c.from_fn-tables.ensures.items in
+    let some : PathTable = items.each.1 in
+    let made : (s : ℕ) → s < 6 → ((get_or ts s some).wiring ≡ w) × ((get_or ts s some).site ≡ s) = λ s l. let h = items.at s some l in search rules in
+    let in_range : (s : ℕ) → s < 6 → s < length ts = λ s l. omega (arith, l, items.long) in
     record {
-      six = refl;
-      placed = six_cases (λ s. get_or (map table_site ts) s 0 ≡ s) c.of.ensures.site c.of-2.ensures.site c.of-3.ensures.site c.of-4.ensures.site c.of-5.ensures.site c.of-6.ensures.site;
-      counted = six_cases (λ s. get_or (map table_count ts) s 0 ≡ N.n)
-          (made_count N w c.of.result 0 same c.of.ensures.wiring c.of.ensures.site)
-          (made_count N w c.of-2.result 1 same c.of-2.ensures.wiring c.of-2.ensures.site)
-          (made_count N w c.of-3.result 2 same c.of-3.ensures.wiring c.of-3.ensures.site)
-          (made_count N w c.of-4.result 3 same c.of-4.ensures.wiring c.of-4.ensures.site)
-          (made_count N w c.of-5.result 4 same c.of-5.ensures.wiring c.of-5.ensures.site)
-          (made_count N w c.of-6.result 5 same c.of-6.ensures.wiring c.of-6.ensures.site);
-      listed = λ s k l. six_cases (λ s. s < N.n → same_paths (get_or (map (level_at k) ts) s []) (expected N s k) ≡ true)
-          (made_level N w c.of.result 0 same c.of.ensures.wiring c.of.ensures.site k)
-          (made_level N w c.of-2.result 1 same c.of-2.ensures.wiring c.of-2.ensures.site k)
-          (made_level N w c.of-3.result 2 same c.of-3.ensures.wiring c.of-3.ensures.site k)
-          (made_level N w c.of-4.result 3 same c.of-4.ensures.wiring c.of-4.ensures.site k)
-          (made_level N w c.of-5.result 4 same c.of-5.ensures.wiring c.of-5.ensures.site k)
-          (made_level N w c.of-6.result 5 same c.of-6.ensures.wiring c.of-6.ensures.site k) s (omega (arith, l, base_few base)) l;
+      six = items.long;
+      placed = λ s l. get_or-map table_site ts s some 0 (in_range s l) ∙ (made s l).1;
+      counted = λ s l. get_or-map table_count ts s some 0 (in_range s l) ∙ made_count N w (get_or ts s some) s same (made s l).0 (made s l).1;
+      listed = λ s k l.
+          let lt : s < 6 = omega (arith, l, base_few base) in
+          ap (λ (ps : List (List ℕ)). same_paths ps (expected N s k)) (get_or-map (level_at k) ts s some [] (in_range s lt))
+          ∙ made_level N w (get_or ts s some) s same (made s lt).0 (made s lt).1 k l;
     }

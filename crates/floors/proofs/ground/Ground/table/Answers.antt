@@ -1,12 +1,7 @@
 use Rattle.std.proofs.Common.{◌<◌, arith}
-use Rattle.floors.proofs.Six.{base_few, table_fits}
+use Rattle.site_plans.proofs.Made.{base_few}
+use Rattle.floors.proofs.Six.{table_fits}
 use Rattle.floors.proofs.ground.Ground.table.Goals as goal
-
-pub listed : goal.listed
-listed c = omega (arith, c.requires, base_few c.args.self.now.base, c.args.self.now.six)
-
-pub bounds-self-site : goal.bounds-self-site
-bounds-self-site c = omega (arith, c.requires, base_few c.args.self.now.base)
 
 pub returns : goal.returns
 returns c =

@@ -1,4 +1,4 @@
-use Rattle.std.proofs.Common.{◌≡◌, ℕ, List, length, take, is_ok, ap, ◌∙◌, subst, arith}
+use Rattle.std.proofs.Common.{rules, ◌≡◌, take, is_ok, ap, ◌∙◌, arith}
 use Rattle.plans.specs.Examples.{pair}
 use Rattle.plans.specs.Sheets.{complete?}
 use Rattle.plans.proofs.Examples.{sheet_examples}
@@ -6,5 +6,5 @@ use Rattle.plans.proofs.plan.Plan.built_in.Goals as goal
 
 pub invariant_of-result : goal.invariant_of-result
 invariant_of-result c =
-    let same : take 6 c.copied.result ≡ pair = subst (λ (w : List ℕ). take (length w) c.copied.result ≡ w) c.pair_words.ensures c.copied.ensures.front in
+    let same : take 6 c.copied.result ≡ pair = search rules in
     record { long = c.copied.ensures.long; within = omega arith; whole = ap complete? same ∙ ap is_ok sheet_examples.pair_passes }

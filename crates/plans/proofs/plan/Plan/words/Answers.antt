@@ -1,5 +1,5 @@
 use Rattle.plans.proofs.Wholes.{plan_lawful}
 use Rattle.plans.proofs.plan.Plan.words.Goals as goal
 
-pub returns : goal.returns
-returns c = record { value = c.held.ensures; lawful = plan_lawful c.args.self.now }
+pub returns-clause-lawful : goal.returns-clause-lawful
+returns-clause-lawful c = plan_lawful c.args.self.now

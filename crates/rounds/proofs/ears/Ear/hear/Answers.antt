@@ -7,6 +7,6 @@ pub returns : goal.returns
 returns g c =
     let ls = lane (g.A.Air.lanes c.args.air.now) c.args.site in
     record {
-      heard = c.search.ensures ∙ low_skip ls c.args.wanted c.pass-place.result c.pass-place.ensures.few c.pass-place.ensures.low;
+      heard = c.search.ensures ∙ low_skip c.args.wanted ls c.pass-place.result c.pass-place.ensures;
       tuned = c.pass-place.ensures;
     }

@@ -1,32 +1,30 @@
-use Rattle.std.proofs.Common.{◌≡◌, ℕ, List, [], ◌∷◌, ap, ◌∙◌}
-use Rattle.airs.specs.Lanes.{Lanes}
-use Rattle.tables.specs.Tables.{table_network}
-use Rattle.notebooks.specs.Notebooks.{owed_words}
-use Rattle.rounds.specs.Speaking.{put_all_reply, put_all_next}
-use Rattle.rounds.proofs.Owed.{owed_first, owed_later}
+use Rattle.std.proofs.Common.{◌≡◌, ℕ, ◌+◌, ◌-◌, ◌<◌, List, length, get_or, sym, ap, ◌∙◌, arith, rules}
+use Rattle.tables.specs.Tables.{table_network, table_level, table_paths}
+use Rattle.tables.proofs.TableFacts.{counts_rise, few}
+use Rattle.notebooks.specs.Notebooks.{owed_words, round_words}
+use Rattle.rounds.proofs.Spoken.{words_length, word_at}
 use Rattle.rounds.proofs.notebook.Notebook.speak.Goals as goal
 
-pub returns-then-round-eq1 : goal.returns-then-round-eq1
-returns-then-round-eq1 g c =
-    let t = c.args.table.now in
-    let ls : Lanes = g.A.Air.lanes c.args.air.now in
-    let size : ℕ = g.A.Air.size in
-    let ws : List ℕ = owed_words (table_network t) t.site c.args.round c.args.bit c.args.self.now.words in
-    let e : c.opening_word.result ∷ [] ≡ ws = owed_first (table_network t) t.site c.args.round c.args.bit c.args.self.now.words c.opening_word.result c.if-round-eq1.true c.opening_word.ensures in
-    record {
-      answer = c.put_all.ensures.answer ∙ ap (λ s. put_all_reply size ls s (c.opening_word.result ∷ [])) c.site.ensures ∙ ap (put_all_reply size ls t.site) e;
-      after = c.put_all.ensures.after ∙ ap (λ s. put_all_next size ls s (c.opening_word.result ∷ [])) c.site.ensures ∙ ap (put_all_next size ls t.site) e;
-    }
+pub put_owed-requires : goal.put_owed-requires
+put_owed-requires g c = λ k lt.
+    let below : k < 325 = omega (arith, few c.args.table.now (c.args.round - 1)) in
+    let long : length c.args.self.now.words ≡ 325 = c.args.self.now.long in
+    search rules
 
-pub returns : goal.returns
-returns g c =
+pub returns-clause-answer : goal.returns-clause-answer
+unfolding owed_words
+returns-clause-answer g c =
     let t = c.args.table.now in
-    let ls : Lanes = g.A.Air.lanes c.args.air.now in
-    let size : ℕ = g.A.Air.size in
-    let ws : List ℕ = owed_words (table_network t) t.site c.args.round c.args.bit c.args.self.now.words in
-    let e : c.round_words.result.now ≡ ws =
-    c.round_words.ensures ∙ owed_later (table_network t) t.site c.args.round c.saturating_sub.result c.args.bit c.args.self.now.words c.if-round-eq1.false c.saturating_sub.ensures in
-    record {
-      answer = c.put_all-2.ensures.answer ∙ ap (λ s. put_all_reply size ls s c.round_words.result.now) c.site-2.ensures ∙ ap (put_all_reply size ls t.site) e;
-      after = c.put_all-2.ensures.after ∙ ap (λ s. put_all_next size ls s c.round_words.result.now) c.site-2.ensures ∙ ap (put_all_next size ls t.site) e;
-    }
+    let book = c.args.self.now.words in
+    c.put_owed.ensures.answer (round_words (table_network t) t.site (c.args.round - 1) book) (words_length t (c.args.round - 1) book c.args.self.now.long)
+
+pub returns-clause-after : goal.returns-clause-after
+unfolding owed_words
+returns-clause-after g c =
+    let t = c.args.table.now in
+    let book = c.args.self.now.words in
+    let long = words_length t (c.args.round - 1) book c.args.self.now.long in
+    c.put_owed.ensures.after (round_words (table_network t) t.site (c.args.round - 1) book) long
+    (λ k w lt p.
+    let is : w ≡ get_or book (length (table_paths t (c.args.round - 1 - 1)) + k) 0 = search rules in
+    is ∙ sym (word_at t (c.args.round - 1) book k (omega arith)))

@@ -10,8 +10,8 @@ returns g c =
     let e = seen_round c.args.self.now in
     let ls = g.A.Air.lanes c.args.air.now in
     let book = c.args.notebook.now.words in
-    let same = sym c.has_size.ensures ∙ c.if-not-has_size.false in
+    let same = sym c.fits.ensures ∙ c.if-not-fits.false in
     record {
-      answer = c.put.ensures.answer ∙ spoken_reply g.A.Air.size N ls e book c.table.result c.table.ensures same c.args.self.now.here;
-      after = c.put.ensures.after ∙ spoken_next g.A.Air.size N ls e book c.table.result c.table.ensures same c.args.self.now.here;
+      answer = c.speak_by_bits.ensures.answer ∙ spoken_reply g.A.Air.size N ls e book c.table-table.result c.table-table.ensures same c.args.self.now.end.here;
+      after = c.speak_by_bits.ensures.after ∙ spoken_next g.A.Air.size N ls e book c.table-table.result c.table-table.ensures same c.args.self.now.end.here;
     }

@@ -6,6 +6,5 @@ use Rattle.tables.proofs.table.PathTable.count.Goals as goal
 pub returns : goal.returns
 returns c =
     let t = c.args.self.now in
-    let e : get_or t.ends c.at_most_five.result 0 ≡ length (table_paths t c.args.k) =
-    count_at t c.args.k c.at_most_five.result c.at_most_five.ensures.same c.at_most_five.ensures.five in
+    let e : get_or t.ends c.min.result 0 ≡ length (table_paths t c.args.k) = count_at t c.args.k c.min.result (λ h. omega (arith, c.min.ensures)) (λ h. omega (arith, c.min.ensures)) in
     record { value = e; most = omega (arith, few t c.args.k) }

@@ -1,6 +1,0 @@
-use Rattle.std.proofs.Common.{arith}
-use Rattle.floors.proofs.Six.{base_some}
-use Rattle.floors.proofs.floor.Floor.asks.Goals as goal
-
-pub table-requires : goal.table-requires
-table-requires g c = omega (arith, base_some c.args.self.now.ground.base)

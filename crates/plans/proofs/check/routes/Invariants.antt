@@ -1,9 +1,0 @@
-use Rattle.std.proofs.Common.{◌≡◌, ◌-◌, not, length, get_or}
-use Rattle.sites.specs.Positions.{first_from}
-use Rattle.plans.specs.Complete.{routed, sets}
-use Rattle.plans.proofs.check.routes.Given as goal
-
-abbrev pub invariant-loop-k : goal.invariant-loop-k
-invariant-loop-k l =
-    first_from (λ k. not (routed l.words (get_or (sets l.words) k 0))) l.k (length (sets l.words) - l.k)
-    ≡ first_from (λ k. not (routed l.words (get_or (sets l.words) k 0))) 0 (length (sets l.words))

@@ -1,0 +1,12 @@
+use Rattle.std.proofs.Common.{rules, tests, ◌^◌, ◌||◌, is_some}
+use Rattle.sites.specs.Sets.{in_set}
+use Rattle.sheets.specs.Parts.{site_count}
+use Rattle.plans.specs.Complete.{fan_place, keeping}
+use Rattle.plans.proofs.Chains.{all_counted}
+use Rattle.plans.proofs.checked.Fans.is_fed.Goals as goal
+
+pub returns : goal.returns
+returns c =
+    let ws = c.args.self.now.sheet.words.now in
+    all_counted (λ Z. in_set (keeping ws c.args.set.bits Z) c.args.at || is_some (fan_place ws c.args.set.bits c.args.at (keeping ws c.args.set.bits Z))) (2 ^ site_count ws) _ _ c.all.result c.all.ensures.ran (cc)
+    (λ x b q k. search (rules, tests))
