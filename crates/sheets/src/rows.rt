@@ -5,7 +5,7 @@ ghost use Rattle.words.specs.Layout.{kind_field};
 ghost use Rattle.sheets.specs.Parts.{joined, head?, edge?, path_word?};
 ghost use Rattle.sheets.specs.Rows.{size_fault, head_fault, kind_fault, edge_fault, path_fault, fan_at?, fan_fault};
 ghost use Rattle.sheets.specs.Refusals.{told, well_formed};
-ghost use Rattle.sheets.specs.Steps.{wired};
+ghost use Rattle.sheets.specs.Steps.{path_told, wired, ReadsAt};
 
 use crate::fans::{fan_size, first_fan, is_fan, run_at};
 use crate::parts::{EDGE, FAN, ROUTE, are_joined, head_of, site_count};
@@ -98,24 +98,38 @@ fn are_wired(words: &[u32], sites: &[u8]) -> bool
     are_below(sites, site_count(words)) && are_linked(words, sites)
 }
 
-fn is_path_word(words: &[u32], word: u32) -> bool
-    ensures { result ≡ path_word? words.now word }
+// The path word at a place; the word reader's refusal is given that place.
+fn path_at(words: &[u32], i: usize) -> Result<PathWord, SheetRefusal>
+    requires { (0 < i) × (i < length words.now) }
+    ensures { ReadsAt words.now i result }
 {
-    PathWord::read(word).is_ok_and(|path_word| are_wired(words, path_word.path().sites()))
+    PathWord::read(words[i]).map_err(|refusal| SheetRefusal { refusal, place: i })
 }
 
-fn is_bad_path(words: &[u32], word: u32) -> bool
-    ensures { result ≡ (nat_le 10 (kind_field word) && not (path_word? words.now word)) }
+// One place of row 5.
+fn check_path(words: &[u32], i: usize) -> Result<(), SheetRefusal>
+    requires { (0 < i) × (i < length words.now) }
+    ensures { result ≡ path_told words.now i }
 {
-    kind_of(word) >= ROUTE && !is_path_word(words, word)
+    if kind_of(words[i]) < ROUTE {
+        return Ok(());
+    }
+    let path = path_at(words, i)?.path();
+    if !are_wired(words, path.sites()) {
+        return told(Refusal::Path, Some(i));
+    }
+    Ok(())
 }
 
-// Row 5: each route and fan path is lawful, over sites below n, along edges.
+// Row 5: each route and fan path is lawful, over sites below n, along edges. A loop and no search: the word reader's
+// refusal is passed up as it is.
 fn check_paths(words: &[u32]) -> Result<(), SheetRefusal>
     ensures { result ≡ told Path (path_fault words.now) }
 {
-    let found = (1..words.len()).find(|i| is_bad_path(words, words[*i]));
-    told(Refusal::Path, found)
+    for i in 1..words.len() {
+        check_path(words, i)?;
+    }
+    Ok(())
 }
 
 // Whether the f + 1 words from a place on are a whole fan.
