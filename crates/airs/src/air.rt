@@ -6,7 +6,7 @@ use sites::Refusal;
 /// What carries words between sites. Its meaning is six lanes, one a site, each the list of the words put there since
 /// the last clearing. Code that goes by this trait may rest on nothing but the six lanes and the lane size.
 pub trait Air {
-    /// How many words a lane can take. A clause cannot name a constant of a trait, so `lane_size` answers it.
+    /// How many words a lane can take. Clauses name it `size`, and `lane_size` answers it.
     const LANE_WORDS: usize;
 
     ghost size: { ℕ };
@@ -14,6 +14,7 @@ pub trait Air {
     ghost lanes: { Self → Lanes };
 
     /// The lane size, the same for every air of this type.
+    // Each air has this body: a provided one would need a law more, which ties the constant to `size`.
     fn lane_size(&self) -> usize
         ensures { result ≡ size };
 

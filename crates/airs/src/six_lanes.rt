@@ -27,6 +27,7 @@ impl<const N: usize> SixLanes<N> {
         ensures answer { result ≡ put_reply N (six_lanes self.old) site }
         ensures after { six_lanes self.new ≡ put_next N (six_lanes self.old) site word }
     {
+        // No `get_mut`: a proof would not know the other lanes after it.
         if site >= 6 {
             return Err(Refusal::NoSite);
         }
@@ -53,7 +54,7 @@ impl<const N: usize> SixLanes<N> {
     pub(crate) fn clear(&mut self)
         ensures { six_lanes self.new ≡ silent }
     {
-        for lane in self.lanes.iter_mut() {
+        for lane in &mut self.lanes {
             lane.clear();
         }
     }
