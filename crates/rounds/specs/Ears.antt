@@ -1,5 +1,5 @@
 -- Hearing with a remembered position in each lane.
-use Rattle.std.specs.Prelude.{◌≡◌, ℕ, ◌+◌, ◌<◌, ◌≤◌, Bool, true, false, cond, List, length, Some, None, Option, ◌==◌, nat_le, slice_index, slice_index_or}
+use Rattle.std.specs.Prelude.{◌≡◌, ℕ, ◌+◌, ◌<◌, ◌≤◌, Bool, false, cond, List, length, Some, None, Option, nat_le, slice_index, slice_index_or}
 use Rattle.airs.specs.Lanes.{Lanes, lane}
 use Rattle.notebooks.specs.Floods.{first_of_two}
 use Rattle.tables.specs.declared.expected_path.ExpectedPath.{ExpectedPath}
@@ -25,15 +25,6 @@ ear_of e u = slice_index_or e.ears u deaf
 pub record Tuned (ls : Lanes) (e : Ears) : Type 0 where
   pub six : length e.ears ≡ 6
   pub each : (u : ℕ) → u < 6 → Below (lane ls u) (ear_of e u).place (ear_of e u).above
-
--- the bit that a word says of a wanted path, whose flood word with bit 0 is x
-abbrev pub said_of : ℕ → ℕ → Option Bool
-said_of x w = cond (w == x) (Some false) (cond (w == x + 1) (Some true) None)
-
--- the bit that the word at a place says, if there is one
-abbrev pub said_at : ℕ → Option ℕ → Option Bool
-said_at x None = None
-said_at x (Some w) = said_of x w
 
 -- whether there is a word that is not below x
 abbrev pub stops_at : ℕ → Option ℕ → Bool

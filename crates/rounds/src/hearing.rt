@@ -6,7 +6,7 @@ ghost use Rattle.notebooks.specs.Floods.{first_of_two, heard_in};
 ghost use Rattle.notebooks.specs.Notebooks.{note_round, take_round};
 ghost use Rattle.tables.specs.Entries.{path_word};
 ghost use Rattle.tables.specs.Tables.{table_network};
-ghost use Rattle.rounds.specs.Ears.{Below, Tuned, note_of, said_of, said_at, stops_at};
+ghost use Rattle.rounds.specs.Ears.{Below, Tuned, note_of, stops_at};
 
 use crate::ears::{Ear, Ears};
 use crate::notebook::Notebook;
@@ -16,33 +16,11 @@ use airs::Air;
 use tables::{ExpectedPath, PathTable};
 use words::Path;
 
-// The bit that a word says of a wanted path, whose flood word with bit 0 is given; nothing where it says none of it.
-fn bit_of(word: u32, wanted: u32) -> Option<bool>
-    requires { wanted < 2 ^ 32 - 1 }
-    ensures { result ≡ said_of wanted word }
-{
-    if word == wanted {
-        Some(false)
-    } else if word == wanted + 1 {
-        Some(true)
-    } else {
-        None
-    }
-}
-
 // Whether a lane has a word at a place that is not below the wanted one.
 fn stops<A: Air>(air: &A, site: u8, place: usize, wanted: u32) -> bool
     ensures { result ≡ stops_at wanted (word_at (A.lanes air.now) site place) }
 {
     air.at(site, place).is_some_and(|word| word >= wanted)
-}
-
-// The bit that the word at a place of a lane says of a wanted path.
-fn said<A: Air>(air: &A, site: u8, place: usize, wanted: u32) -> Option<bool>
-    requires { wanted < 2 ^ 32 - 1 }
-    ensures { result ≡ said_at wanted (word_at (A.lanes air.now) site place) }
-{
-    bit_of(air.at(site, place)?, wanted)
 }
 
 // A place up to which all words of a lane are below the wanted one.
@@ -61,10 +39,15 @@ fn search<A: Air>(air: &A, site: u8, wanted: u32, start: usize) -> bool
     requires { wanted < 2 ^ 32 - 1 }
     ensures { result ≡ first_of_two wanted (drop start (lane (A.lanes air.now) site)) }
 {
-    // a loop: of `find_map` over a range std's lemmas tell no positions
+    // two tests in a loop: a function that gives the bit of a word costs a quarter more instructions
     for k in start..air.count(site) {
-        if let Some(bit) = said(air, site, k, wanted) {
-            return bit;
+        if let Some(word) = air.at(site, k) {
+            if word == wanted {
+                return false;
+            }
+            if word == wanted + 1 {
+                return true;
+            }
         }
     }
     true

@@ -1,19 +1,33 @@
-use Rattle.std.proofs.Common.{length, sym, ◌∙◌, arith}
+use Rattle.std.proofs.Common.{◌<◌, ◌≤◌, length, sym, ◌∙◌, arith}
 use Rattle.airs.specs.Lanes.{lane}
-use Rattle.rounds.proofs.Scans.{said_here, said_not, first_end}
+use Rattle.rounds.proofs.Scans.{first_zero, first_one, first_skip, first_end, never_none}
 use Rattle.rounds.proofs.hearing.search.Goals as goal
+use Rattle.rounds.proofs.hearing.search.Goals.{in-Some+else-word-wanted+else-word-wanted-2, in_default}
+
+pub returns-then-word-wanted : goal.returns-then-word-wanted
+returns-then-word-wanted g c =
+    let ls = lane (g.A.Air.lanes c.args.air.now) c.args.site in
+    let lt : c.loop-k.k < length ls = omega (arith, c.count-k-end.ensures) in
+    sym (first_zero c.args.wanted c.loop-k.k c.in-Some.word ls lt c.in-Some.ensures c.if-word-wanted.true) ∙ c.loop-k.invariant
+
+pub returns-then-word-wanted-2 : goal.returns-then-word-wanted-2
+returns-then-word-wanted-2 g c =
+    let ls = lane (g.A.Air.lanes c.args.air.now) c.args.site in
+    let lt : c.loop-k.k < length ls = omega (arith, c.count-k-end.ensures) in
+    sym (first_one c.args.wanted c.loop-k.k c.in-Some.word ls lt c.in-Some.ensures c.if-word-wanted.false c.if-word-wanted-2.true) ∙ c.loop-k.invariant
 
 pub loop-k-preserved : goal.loop-k-preserved
 loop-k-preserved g c =
-    let ws = lane (g.A.Air.lanes c.args.air.now) c.args.site in
-    sym (said_not c.args.wanted ws c.loop-k.k (omega (arith, c.count-k-end.ensures, c.loop-k-test.true)) c.in_default.ensures) ∙ c.loop-k.invariant
-
-pub returns-in-Some : goal.returns-in-Some
-returns-in-Some g c =
-    let ws = lane (g.A.Air.lanes c.args.air.now) c.args.site in
-    sym (said_here c.args.wanted ws c.loop-k.k c.in-Some.bit (omega (arith, c.count-k-end.ensures, c.loop-k-test.true)) c.in-Some.ensures) ∙ c.loop-k.invariant
+    let ls = lane (g.A.Air.lanes c.args.air.now) c.args.site in
+    let lt : c.loop-k.k < length ls = omega (arith, c.count-k-end.ensures) in
+    elim c.match-at.branch [
+      | in-Some+else-word-wanted+else-word-wanted-2 w ↦
+          sym (first_skip c.args.wanted c.loop-k.k w.in-Some.word ls lt w.in-Some.ensures w.if-word-wanted.false w.if-word-wanted-2.false) ∙ c.loop-k.invariant
+      | in_default w ↦ absurd (never_none c.loop-k.k ls lt (sym w.in_default.is ∙ c.at.ensures))
+    ]
 
 pub returns : goal.returns
 returns g c =
-    let ws = lane (g.A.Air.lanes c.args.air.now) c.args.site in
-    sym (first_end c.args.wanted ws c.loop-k.k (omega (arith, c.count-k-end.ensures))) ∙ c.loop-k.invariant
+    let ls = lane (g.A.Air.lanes c.args.air.now) c.args.site in
+    let le : length ls ≤ c.loop-k.k = omega (arith, c.count-k-end.ensures) in
+    sym (first_end c.args.wanted c.loop-k.k ls le) ∙ c.loop-k.invariant
