@@ -6,7 +6,7 @@ pub(crate) enum Tag {
     Done = 3,
 }
 
-/// The seven words by which a host keeps a single end.
+/// The seven words by which a host keeps a single end. The tag is a number here, since a host may write any.
 #[derive(Clone, Copy)]
 pub(crate) struct EndWords {
     pub(crate) tag: u32,

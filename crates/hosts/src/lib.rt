@@ -1,4 +1,5 @@
-// Functions for hosts that are written in C or Rust: they take numbers and slices of words, and any of these.
+// Functions for hosts that are written in C or Rust: they take numbers and slices of words, and any of these. Each turns
+// what a private function answers by `?` into a number, so that its clauses stand at both.
 #![tactic(auto)]
 
 mod beginning;

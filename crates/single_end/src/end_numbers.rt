@@ -7,7 +7,7 @@ use crate::end_site::EndSite;
 use crate::numbers::Numbers;
 
 impl EndSite {
-    // Its numbers in a round.
+    // Its numbers in a round. No `From`, since it takes the round beside the end.
     pub(crate) fn numbers(self, round: usize) -> Numbers
         ensures { result ≡ record { site = self.site; bit = self.bit; phase = self.phase; round = round; n = self.n; f = self.f } }
     {
