@@ -1,6 +1,8 @@
 -- What a reader gives out: the items of a sheet, each with its place.
-use Rattle.std.specs.Prelude.{◌≡◌, ℕ, ◌+◌, ◌*◌, ◌/◌, ◌%◌, ◌<◌, ◌≤◌, true, cond, List, [], ◌∷◌, map, length, Some, None, Ok, Err, Option, Result, ◌==◌, nat_lt}
+use Rattle.std.specs.Prelude.{◌≡◌, ℕ, ◌+◌, ◌-◌, ◌*◌, ◌/◌, ◌%◌, ◌<◌, ◌≤◌, true, cond, List, [], ◌∷◌, map, length, Some, None, Ok, Err, Option, Result, ◌==◌, nat_lt}
 use Rattle.std.specs.List.{AllByRecursion}
+use Rattle.std.specs.Option.{option_map}
+use Rattle.std.specs.Iterator.{Count, at_most}
 use Rattle.sites.specs.Lists.{join_all}
 use Rattle.words.specs.Layout.{kind_field}
 use Rattle.sheets.specs.declared.refusal.SheetRefusal.{SheetRefusal}
@@ -80,3 +82,13 @@ module _ (ws : List ℕ) where
 abbrev pub Opens : List ℕ → Result Reader SheetRefusal → Type 0
 Opens ws (Ok r) = (well_formed ws ≡ Ok tt) × (r.words.now ≡ ws) × (r.at ≡ 0)
 Opens ws (Err e) = well_formed ws ≡ Err e
+
+-- what a call of a reader's `next` gives, and where the reader then stands
+pub record ReadsNext (r : Reader) (item : Option Item) (after : Reader) : Type 0 where
+  pub gives : option_map part_of item ≡ item_at r.words.now r.at
+  pub moves : after.at ≡ place_after r.words.now r.at
+  pub same : after.words.now ≡ r.words.now
+
+-- each item takes at least one of the words that are left
+abbrev pub words_left : Reader → Count
+words_left r = at_most (length r.words.now - r.at)

@@ -4,20 +4,16 @@ ghost use Rattle.words.specs.Layout.{path_field};
 ghost use Rattle.sheets.specs.Parts.{site_at, apart, joins_fan, fan?, rogue_limit};
 ghost use Rattle.sheets.specs.Rows.{first_fan, run_at};
 
-use crate::parts::{end_of, rogue_limit};
+use crate::parts::{FAN, end_of, rogue_limit};
 use words::fields::{count_of, kind_of, site_of};
 
-// Whether a site stands nowhere on a word's path but at its end.
-fn lacks(word: u32, site: u8) -> bool
-    ensures { result ≡ all_from (λ j. not (site == site_at word j)) 0 (length (path_field word) - 1) }
+// Whether the site at a place of one path stands nowhere on another but at its end.
+fn is_off(v: u32, i: usize, w: u32) -> bool
+    ensures { result ≡ all_from (λ j. not (site_at v i == site_at w j)) 0 (length (path_field w) - 1) }
 {
-    let stop = count_of(word).saturating_sub(1);
-    for j in 0..stop {
-        if site == site_of(word, j) {
-            return false;
-        }
-    }
-    true
+    let site = site_of(v, i);
+    let stop = count_of(w).saturating_sub(1);
+    (0..stop).all(|j| site != site_of(w, j))
 }
 
 // Whether two paths share no site but their ends.
@@ -25,12 +21,7 @@ fn are_apart(v: u32, w: u32) -> bool
     ensures { result ≡ apart v w }
 {
     let stop = count_of(v).saturating_sub(1);
-    for i in 0..stop {
-        if !lacks(w, site_of(v, i)) {
-            return false;
-        }
-    }
-    true
+    (0..stop).all(|i| is_off(v, i, w))
 }
 
 // Whether a path of a run shares no site but its end with those before it.
@@ -38,12 +29,7 @@ fn is_apart_from_earlier(run: &[u32], k: usize) -> bool
     requires { k < length run.now }
     ensures { result ≡ all_from (λ j. apart (slice_index run.now j) (slice_index run.now k)) 0 k }
 {
-    for j in 0..k {
-        if !are_apart(run[j], run[k]) {
-            return false;
-        }
-    }
-    true
+    (0..k).all(|j| are_apart(run[j], run[k]))
 }
 
 // Whether a path of a run ends where the first one does, and shares no other site with those before it.
@@ -58,24 +44,16 @@ fn joins_fan(run: &[u32], k: usize) -> bool
 pub fn is_fan(run: &[u32]) -> bool
     ensures { result ≡ fan? run.now }
 {
-    for k in 0..run.len() {
-        if !joins_fan(run, k) {
-            return false;
-        }
-    }
-    true
+    (0..run.len()).all(|k| joins_fan(run, k))
 }
 
 /// The place of the first fan path, from which fans are counted off; the sheet's length where it has none.
 pub fn first_fan(words: &[u32]) -> usize
     ensures { result ≡ first_fan words.now }
 {
-    for i in 1..words.len() {
-        if kind_of(words[i]) == 11 {
-            return i;
-        }
-    }
-    words.len()
+    (1..words.len())
+        .find(|i| kind_of(words[*i]) == FAN)
+        .unwrap_or(words.len())
 }
 
 // How many words a fan has.

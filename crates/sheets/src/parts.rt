@@ -4,14 +4,20 @@ ghost use Rattle.sheets.specs.Parts.{source, end, avoids as does_avoid, edge_wor
 use sites::SiteMask;
 use words::fields::{count_of, site_of};
 
+// The kinds of a sheet's words. Numbers and no enum: rows 3 and 5 also compare the numbers of words that have none of these kinds.
+pub(crate) const HEAD: u32 = 8;
+
+pub(crate) const EDGE: u32 = 9;
+
+pub(crate) const ROUTE: u32 = 10;
+
+pub(crate) const FAN: u32 = 11;
+
 // The first word of a sheet; 0 where it has none.
 pub(crate) fn head_of(words: &[u32]) -> u32
     ensures { result ≡ word_at words.now 0 }
 {
-    if words.len() == 0 {
-        return 0;
-    }
-    words[0]
+    words.first().copied().unwrap_or(0)
 }
 
 /// How many sites the head tells.
@@ -32,10 +38,7 @@ pub fn rogue_limit(words: &[u32]) -> u8
 fn edge_between(a: u8, b: u8) -> u32
     ensures { result ≡ edge_word a b }
 {
-    if a < b {
-        return 0x9000_0000 + a as u32 * 8 + b as u32;
-    }
-    0x9000_0000 + b as u32 * 8 + a as u32
+    0x9000_0000 + u32::from(a.min(b)) * 8 + u32::from(a.max(b))
 }
 
 /// Whether some word after the head is the edge between two sites. Edges stand first, so that of two joined
@@ -44,12 +47,7 @@ pub fn are_joined(words: &[u32], a: u8, b: u8) -> bool
     ensures { result ≡ joined words.now a b }
 {
     let edge = edge_between(a, b);
-    for i in 1..words.len() {
-        if words[i] == edge {
-            return true;
-        }
-    }
-    false
+    words.iter().skip(1).any(|word| *word == edge)
 }
 
 /// The first site of a word's path; 0 where it names none.
@@ -71,10 +69,5 @@ pub fn avoids(set: SiteMask, word: u32) -> bool
     ensures { result ≡ does_avoid set.bits word }
 {
     let stop = count_of(word).saturating_sub(1);
-    for i in 1..stop {
-        if set.contains(site_of(word, i)) {
-            return false;
-        }
-    }
-    true
+    (1..stop).all(|i| !set.contains(site_of(word, i)))
 }

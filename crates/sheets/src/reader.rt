@@ -1,5 +1,5 @@
 /// An item of a sheet, with the place of its first word.
-#[derive(Clone, Copy)]
+#[derive(Clone, Copy, PartialEq, Eq, Debug)]
 pub enum Item<'a> {
     /// How many sites there are, and how many may be rogue.
     Head { place: usize, sites: u8, rogues: u8 },

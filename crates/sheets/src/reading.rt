@@ -1,8 +1,9 @@
-ghost use Rattle.std.specs.Prelude.{◌≡◌};
+ghost use Rattle.std.specs.Prelude.{◌≡◌, length};
 ghost use Rattle.std.specs.Option.{option_map};
-ghost use Rattle.sheets.specs.Items.{part_of, item_at, place_after, Opens, ReadingLaw};
+ghost use Rattle.sheets.specs.Items.{part_of, words_of, item_at, Opens, ReadingLaw, ReadsNext, words_left};
 
 use crate::fans::run_at;
+use crate::parts::{EDGE, FAN, HEAD};
 use crate::reader::{Item, Reader};
 use crate::refusal::SheetRefusal;
 use crate::rows::check;
@@ -25,45 +26,55 @@ impl<'a> Reader<'a> {
         check(words)?;
         Ok(Reader::at_start(words))
     }
+}
+
+impl<'a> Item<'a> {
+    // How many words it is written as.
+    fn word_count(&self) -> usize
+        ensures { result ≡ length (words_of (part_of self.now)) }
+    {
+        match self {
+            Item::Fan { run, .. } => run.len(),
+            _ => 1,
+        }
+    }
+
+    // The item at a place of some words, by the kind of the word there.
+    fn at(words: &'a [u32], place: usize) -> Option<Item<'a>>
+        ensures { option_map part_of result ≡ item_at words.now place }
+    {
+        let word = *words.get(place)?;
+        Some(match kind_of(word) {
+            HEAD => Item::Head {
+                place,
+                sites: (word / 16 % 16) as u8,
+                rogues: (word % 16) as u8,
+            },
+            EDGE => Item::Edge {
+                place,
+                low: (word / 8 % 8) as u8,
+                high: (word % 8) as u8,
+            },
+            FAN => Item::Fan {
+                place,
+                run: run_at(words, place),
+            },
+            _ => Item::Route { place, word },
+        })
+    }
+}
+
+impl<'a> Iterator for Reader<'a> {
+    type Item = Item<'a>;
+
+    ghost next_gives = { ReadsNext };
+
+    ghost remaining = { words_left };
 
     /// The item at the reader's place, behind which it then stands; past the end nothing.
-    pub fn next(&mut self) -> Option<Item<'a>>
-        ensures gives { option_map part_of result ≡ item_at self.old.words.now self.old.at }
-        ensures moves { self.new.at ≡ place_after self.old.words.now self.old.at }
-        ensures same { self.new.words.now ≡ self.old.words.now }
-    {
-        let words = self.words;
-        let place = self.at;
-        if place >= words.len() {
-            return None;
-        }
-        let word = words[place];
-        match kind_of(word) {
-            8 => {
-                self.at = place + 1;
-                Some(Item::Head {
-                    place,
-                    sites: (word / 16 % 16) as u8,
-                    rogues: (word % 16) as u8,
-                })
-            }
-            9 => {
-                self.at = place + 1;
-                Some(Item::Edge {
-                    place,
-                    low: (word / 8 % 8) as u8,
-                    high: (word % 8) as u8,
-                })
-            }
-            11 => {
-                let run = run_at(words, place);
-                self.at = place + run.len();
-                Some(Item::Fan { place, run })
-            }
-            _ => {
-                self.at = place + 1;
-                Some(Item::Route { place, word })
-            }
-        }
+    fn next(&mut self) -> Option<Item<'a>> {
+        let item = Item::at(self.words, self.at)?;
+        self.at += item.word_count();
+        Some(item)
     }
 }

@@ -1,4 +1,5 @@
 pub mod Positions
+pub mod Ranges
 pub mod Lists
 pub mod Sets
 pub mod Suspects

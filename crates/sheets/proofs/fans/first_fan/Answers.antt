@@ -1,10 +1,11 @@
-use Rattle.std.proofs.Common.{arith, rules}
-use Rattle.std.proofs.lemmas.Bool.Decides.{nat_tests}
-use Rattle.sites.proofs.Positions.{first_hit, first_miss}
+use Rattle.std.proofs.Common.{eqb, length, ◌∙◌, rules}
+use Rattle.words.specs.Layout.{kind_field}
+use Rattle.sheets.specs.Parts.{word_at}
+use Rattle.sites.proofs.Ranges.{found_number}
+use Rattle.sheets.proofs.Chains.{or_length}
 use Rattle.sheets.proofs.fans.first_fan.Goals as goal
 
-pub returns-then-kind_of-eq11 : goal.returns-then-kind_of-eq11
-returns-then-kind_of-eq11 c = search (rules, first_hit)
-
-pub loop-i-preserved : goal.loop-i-preserved
-loop-i-preserved c = grind (arith, nat_tests, first_miss)
+pub returns : goal.returns
+returns c =
+    let ws = c.args.words.now in
+    c.unwrap_or.ensures ∙ or_length c.find.result (length ws) _ (found_number _ _ _ (λ i. eqb (kind_field (word_at ws i)) 11) (search rules) (λ k b lo hi h. search rules) c.find.result c.find.ensures.runs)

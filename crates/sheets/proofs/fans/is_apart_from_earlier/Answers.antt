@@ -1,10 +1,7 @@
-use Rattle.std.proofs.Common.{arith, rules}
-use Rattle.std.proofs.lemmas.Bool.Decides.{nat_tests}
-use Rattle.sites.proofs.Positions.{all_fail, all_pass}
+use Rattle.std.proofs.Common.{get_or, rules}
+use Rattle.sheets.specs.Parts.{apart}
+use Rattle.sites.proofs.Ranges.{all_numbers}
 use Rattle.sheets.proofs.fans.is_apart_from_earlier.Goals as goal
 
-pub returns-then-not-are_apart : goal.returns-then-not-are_apart
-returns-then-not-are_apart c = search (rules, all_fail)
-
-pub loop-j-preserved : goal.loop-j-preserved
-loop-j-preserved c = grind (arith, nat_tests, all_pass)
+pub returns : goal.returns
+returns c = all_numbers _ _ _ (λ j. apart (get_or c.args.run.now j 0) (get_or c.args.run.now c.args.k 0)) (search rules) (λ k b lo hi h. search rules) c.args.k c.all.result (search rules) c.all.ensures.runs

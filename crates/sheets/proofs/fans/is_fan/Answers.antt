@@ -1,10 +1,7 @@
-use Rattle.std.proofs.Common.{arith, rules}
-use Rattle.std.proofs.lemmas.Bool.Decides.{nat_tests}
-use Rattle.sites.proofs.Positions.{all_fail, all_pass}
+use Rattle.std.proofs.Common.{length, rules}
+use Rattle.sheets.specs.Parts.{joins_fan}
+use Rattle.sites.proofs.Ranges.{all_numbers}
 use Rattle.sheets.proofs.fans.is_fan.Goals as goal
 
-pub returns-then-not-joins_fan : goal.returns-then-not-joins_fan
-returns-then-not-joins_fan c = search (rules, all_fail)
-
-pub loop-k-preserved : goal.loop-k-preserved
-loop-k-preserved c = grind (arith, nat_tests, all_pass)
+pub returns : goal.returns
+returns c = all_numbers _ _ _ (joins_fan c.args.run.now) (search rules) (λ k b lo hi h. search rules) (length c.args.run.now) c.all.result (search rules) c.all.ensures.runs

@@ -1,10 +1,9 @@
-use Rattle.std.proofs.Common.{arith, rules}
-use Rattle.std.proofs.lemmas.Bool.Decides.{nat_tests}
-use Rattle.sites.proofs.Positions.{all_fail, all_pass}
+use Rattle.std.proofs.Common.{◌-◌, not, length, rules}
+use Rattle.sites.specs.Sets.{in_set}
+use Rattle.words.specs.Layout.{path_field}
+use Rattle.sheets.specs.Parts.{site_at}
+use Rattle.sites.proofs.Ranges.{all_numbers}
 use Rattle.sheets.proofs.parts.avoids.Goals as goal
 
-pub returns-then-contains : goal.returns-then-contains
-returns-then-contains c = search (rules, all_fail)
-
-pub loop-i-preserved : goal.loop-i-preserved
-loop-i-preserved c = grind (arith, nat_tests, all_pass)
+pub returns : goal.returns
+returns c = all_numbers _ _ _ (λ i. not (in_set c.args.set.bits (site_at c.args.word i))) (search rules) (λ k b lo hi h. search rules) (length (path_field c.args.word) - 2) c.all.result (search rules) c.all.ensures.runs

@@ -1,10 +1,7 @@
-use Rattle.std.proofs.Common.{arith, rules}
-use Rattle.std.proofs.lemmas.Bool.Decides.{nat_tests}
-use Rattle.sites.proofs.Positions.{all_fail, all_pass}
+use Rattle.std.proofs.Common.{◌+◌, ◌-◌, length, get_or, rules}
+use Rattle.sheets.specs.Parts.{joined}
+use Rattle.sites.proofs.Ranges.{all_numbers}
 use Rattle.sheets.proofs.rows.are_linked.Goals as goal
 
-pub returns-then-not-are_joined : goal.returns-then-not-are_joined
-returns-then-not-are_joined c = search (rules, all_fail)
-
-pub loop-j-preserved : goal.loop-j-preserved
-loop-j-preserved c = grind (arith, nat_tests, all_pass)
+pub returns : goal.returns
+returns c = all_numbers _ _ _ (λ j. joined c.args.words.now (get_or c.args.sites.now j 0) (get_or c.args.sites.now (j + 1) 0)) (search rules) (λ k b lo hi h. search rules) (length c.args.sites.now - 1) c.all.result (search rules) c.all.ensures.runs

@@ -1,10 +1,9 @@
-use Rattle.std.proofs.Common.{arith, rules}
-use Rattle.std.proofs.lemmas.Bool.Decides.{nat_tests}
-use Rattle.sites.proofs.Positions.{first_hit, first_miss}
+use Rattle.std.proofs.Common.{ap, ◌∙◌, rules}
+use Rattle.sites.specs.declared.refusal.Refusal.TheVariants.{Edge}
+use Rattle.sheets.specs.Rows.{bad_edge}
+use Rattle.sheets.specs.Refusals.{told}
+use Rattle.sites.proofs.Ranges.{found_number}
 use Rattle.sheets.proofs.rows.check_edges.Goals as goal
 
-pub returns-then-is_bad_edge : goal.returns-then-is_bad_edge
-returns-then-is_bad_edge c = search (rules, first_hit)
-
-pub loop-i-preserved : goal.loop-i-preserved
-loop-i-preserved c = grind (arith, nat_tests, first_miss)
+pub returns : goal.returns
+returns c = c.told.ensures ∙ ap (told Edge) (found_number _ _ _ (bad_edge c.args.words.now) (search rules) (λ k b lo hi h. search rules) c.find-found.result c.find-found.ensures.runs)

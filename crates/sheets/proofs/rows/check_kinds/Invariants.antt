@@ -1,7 +1,0 @@
-use Rattle.std.proofs.Common.{◌≡◌, ◌-◌, length}
-use Rattle.sites.specs.Positions.{first_from}
-use Rattle.sheets.specs.Rows.{bad_kind, kind_fault}
-use Rattle.sheets.proofs.rows.check_kinds.Given as goal
-
-abbrev pub invariant-loop-i : goal.invariant-loop-i
-invariant-loop-i l = first_from (bad_kind l.words) l.i (length l.words - l.i) ≡ kind_fault l.words
