@@ -5,7 +5,7 @@ use crate::text::{Bid, Lanes, Words, trimmed};
 use airs::Air;
 use floors::Floor;
 use plans::Plan;
-use runs::{Answer, Call};
+use runs::{Call, Value};
 use sites::SiteMask;
 use std::fmt::Write;
 
@@ -67,13 +67,12 @@ fn counted(call: Call) -> &'static str {
 
 // Performs one call and writes what it answered. It goes as a list of one through the call that bears the guarantee.
 fn perform_call<A: Air>(call: Call, floor: &mut Floor<A>, reply: &mut String) -> Result<(), Fault> {
-    let mut answers = [Answer::Count(0)];
+    let mut answers = [Ok(Value::Count(0))];
     floor.perform(&[call], &mut answers);
     let [answer] = answers;
-    match answer {
-        Answer::Count(count) => write!(reply, "ok {count}  # {}", counted(call))?,
-        Answer::Bit(bit) => write!(reply, "ok {}  # {}", u8::from(bit), Bid(bit))?,
-        Answer::Refused(refusal) => return Err(Fault::Refused(refusal)),
+    match answer? {
+        Value::Count(count) => write!(reply, "ok {count}  # {}", counted(call))?,
+        Value::Bit(bit) => write!(reply, "ok {}  # {}", u8::from(bit), Bid(bit))?,
     }
     Ok(())
 }

@@ -1,8 +1,6 @@
 // Path words: what they say, and how they are written.
 use crate::fault::Fault;
 use crate::line::{Argument, Line};
-use crate::text::Dashed;
-use sites::Refusal;
 use std::alloc::Global;
 use std::fmt;
 use std::fmt::Write;
@@ -35,9 +33,10 @@ impl fmt::Display for Described {
         let word = self.0;
         write!(f, "{}: the ", name(word.kind()))?;
         let path = word.path();
-        match path.sites() {
-            [] => write!(f, "empty path")?,
-            sites => write!(f, "path {}", Dashed(sites))?,
+        if path.sites().is_empty() {
+            write!(f, "empty path")?;
+        } else {
+            write!(f, "path {path}")?;
         }
         if word.kind() == Kind::Flood {
             write!(f, " with bit {}", word.tail())?;
@@ -49,15 +48,14 @@ impl fmt::Display for Described {
 // What a word says, part by part.
 fn read(word: u32, reply: &mut String) -> Result<(), Fault> {
     let word = PathWord::read(word)?;
-    let path = word.path();
-    let (kind, tail, sites) = (word.kind().number(), word.tail(), Dashed(path.sites()));
-    write!(reply, "ok {kind} {tail} [{sites}]  # {}", Described(word))?;
+    let (kind, tail, path) = (word.kind().number(), word.tail(), word.path());
+    write!(reply, "ok {kind} {tail} [{path}]  # {}", Described(word))?;
     Ok(())
 }
 
 // The word of a kind's number, a tail and some sites.
 fn write(kind: u8, tail: u8, sites: &[u8], reply: &mut String) -> Result<(), Fault> {
-    let kind = Kind::named(u32::from(kind)).ok_or(Refusal::Path)?;
+    let kind = Kind::try_from(u32::from(kind))?;
     let word = PathWord::new(kind, Path::new(sites)?, tail)?;
     write!(reply, "ok {:08X}  # {}", word.write(), Described(word))?;
     Ok(())

@@ -1,7 +1,7 @@
 // Sheets and the plan in hand.
 use crate::fault::Fault;
 use crate::line::Line;
-use crate::text::{Dashed, Words};
+use crate::text::Words;
 use plans::Plan;
 use sheets::{Item, Reader};
 use sites::SiteMask;
@@ -101,10 +101,9 @@ fn route(set: SiteMask, from: u8, to: u8, plan: &Plan, reply: &mut String) -> Re
         return Ok(());
     };
     let path = plan.route(set, from, to);
-    let sites = Dashed(path.sites());
     write!(
         reply,
-        "ok {place} {sites}  # the route taken from {from} to {to}"
+        "ok {place} {path}  # the route taken from {from} to {to}"
     )?;
     Ok(())
 }
@@ -117,7 +116,7 @@ impl fmt::Display for Paths<'_> {
     fn fmt<W: fmt::Write>(&self, f: &mut fmt::Formatter<W>) -> fmt::Result {
         for word in self.0 {
             if let Ok(word) = PathWord::read(*word) {
-                write!(f, " {}", Dashed(word.path().sites()))?;
+                write!(f, " {}", word.path())?;
             }
         }
         Ok(())

@@ -13,23 +13,6 @@ impl fmt::Display for Bid {
     }
 }
 
-/// Some sites with dashes between them.
-#[derive(Clone, Copy)]
-pub(crate) struct Dashed<'a>(pub &'a [u8]);
-
-impl fmt::Display for Dashed<'_> {
-    fn fmt<W: fmt::Write>(&self, f: &mut fmt::Formatter<W>) -> fmt::Result {
-        let Some((first, others)) = self.0.split_first() else {
-            return Ok(());
-        };
-        write!(f, "{first}")?;
-        for site in others {
-            write!(f, "-{site}")?;
-        }
-        Ok(())
-    }
-}
-
 /// Some words, each of eight hexadecimal digits, with a mark before each.
 #[derive(Clone, Copy)]
 pub(crate) struct Words<'a> {
