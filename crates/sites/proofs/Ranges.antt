@@ -15,15 +15,14 @@ same_option : (o : Option ℕ) (n : ℕ) → option_map (λ y. y) o ≡ Some n �
 same_option None n e = e
 same_option (Some x) n e = e
 
-
 -- the number at a place of a run
 at_number : (q : Run nat_range_steps) (k : ℕ) → k < q.len → q.at k ≡ Some (q.from.start + k)
 at_number q k l = same_option (q.at k) (q.from.start + k) ((range_runs q q.seen).3 k l)
 
 module _ {F : Type 0} (g : Mut F (ℕ × Unit {0}) Bool) (f : F) (s : Range ℕ) (p : ℕ → Bool) (keeps : CallKeepsClosure g f)
     (is : (k : ℕ) (b : Bool) → s.start ≤ k → k < s.end → Called g f (k, tt) b f → b ≡ p k) where
-  pub all_numbers : (n : ℕ) (r : Bool) → n ≡ s.end - s.start → SomeRun nat_range_steps s (λ q. MatchBool r (IsTrue q.whole × AllItemsGive q g f true) (AnyItemGives q g f false)) → r ≡ all_from p s.start n
-  all_numbers n true m run =
+  all_from_start : (n : ℕ) (r : Bool) → n ≡ s.end - s.start → SomeRun nat_range_steps s (λ q. MatchBool r (IsTrue q.whole × AllItemsGive q g f true) (AnyItemGives q g f false)) → r ≡ all_from p s.start n
+  all_from_start n true m run =
       let q = run.0 in
       let a : q.from.start ≡ s.start = ap (λ (x : Range ℕ). x.start) run.1 in
       let b : q.from.end ≡ s.end = ap (λ (x : Range ℕ). x.end) run.1 in
@@ -31,7 +30,7 @@ module _ {F : Type 0} (g : Mut F (ℕ × Unit {0}) Bool) (f : F) (s : Range ℕ)
       sym (all_by p s.start n (λ k lo hi.
       let e : q.at (k - s.start) ≡ Some k = at_number q (k - s.start) (omega (arith, a, b, l, m, lo, hi)) ∙ ap (λ (x : ℕ). Some x) (omega (arith, a, lo)) in
       sym (is k true lo (omega (arith, m, lo, hi)) (subst (λ (o : Option ℕ). IfSome o (λ x. Called g f (x, tt) true f)) e (run.2.1 keeps (k - s.start))))))
-  all_numbers n false m run =
+  all_from_start n false m run =
       let q = run.0 in
       let a : q.from.start ≡ s.start = ap (λ (x : Range ℕ). x.start) run.1 in
       let b : q.from.end ≡ s.end = ap (λ (x : Range ℕ). x.end) run.1 in
@@ -44,10 +43,13 @@ module _ {F : Type 0} (g : Mut F (ℕ × Unit {0}) Bool) (f : F) (s : Range ℕ)
       (λ y. sym y)
       (cases_Bool (all_from p s.start n))
 
+  pub all_numbers : (a n : ℕ) (r : Bool) → a ≡ s.start → n ≡ s.end - s.start → SomeRun nat_range_steps s (λ q. MatchBool r (IsTrue q.whole × AllItemsGive q g f true) (AnyItemGives q g f false)) → r ≡ all_from p a n
+  all_numbers a n r e m run = subst (λ (i : ℕ). r ≡ all_from p i n) (sym e) (all_from_start n r m run)
+
 module _ {F : Type 0} (g : Mut F (Bor ℕ × Unit {0}) Bool) (f : F) (s : Range ℕ) (p : ℕ → Bool) (keeps : CallKeepsClosure g f)
     (is : (k : ℕ) (b : Bool) → s.start ≤ k → k < s.end → CalledAt g f k b f → b ≡ p k) where
-  pub found_number : (r : Option ℕ) → SomeRun nat_range_steps s (λ q. MatchOption r (IsTrue q.whole × NoItemPasses q g f) (EndsAtFirstPassing q g f)) → r ≡ first_from p s.start (s.end - s.start)
-  found_number None run =
+  found_from_start : (r : Option ℕ) → SomeRun nat_range_steps s (λ q. MatchOption r (IsTrue q.whole × NoItemPasses q g f) (EndsAtFirstPassing q g f)) → r ≡ first_from p s.start (s.end - s.start)
+  found_from_start None run =
       let q = run.0 in
       let a : q.from.start ≡ s.start = ap (λ (x : Range ℕ). x.start) run.1 in
       let b : q.from.end ≡ s.end = ap (λ (x : Range ℕ). x.end) run.1 in
@@ -55,7 +57,7 @@ module _ {F : Type 0} (g : Mut F (Bor ℕ × Unit {0}) Bool) (f : F) (s : Range 
       sym (no_first p s.start (s.end - s.start) (λ k lo hi.
       let e : q.at (k - s.start) ≡ Some k = at_number q (k - s.start) (omega (arith, a, b, n, lo, hi)) ∙ ap (λ (x : ℕ). Some x) (omega (arith, a, lo)) in
       sym (is k false lo (omega (arith, lo, hi)) (subst (λ (o : Option ℕ). IfSome o (λ x. CalledAt g f x false f)) e (run.2.1 keeps (k - s.start))))))
-  found_number (Some x) run =
+  found_from_start (Some x) run =
       let q = run.0 in
       let a : q.from.start ≡ s.start = ap (λ (x : Range ℕ). x.start) run.1 in
       let b : q.from.end ≡ s.end = ap (λ (x : Range ℕ). x.end) run.1 in
@@ -67,3 +69,7 @@ module _ {F : Type 0} (g : Mut F (Bor ℕ × Unit {0}) Bool) (f : F) (s : Range 
       sym (this_first p s.start (s.end - s.start) x (omega (arith, a, d)) (omega (arith, a, b, d, m, run.2.1)) (sym (is x true (omega (arith, a, d)) (omega (arith, a, b, d, m, run.2.1)) t.0)) (λ k lo hi.
       let c : q.at (k - s.start) ≡ Some k = at_number q (k - s.start) (omega (arith, a, d, lo, hi, run.2.1)) ∙ ap (λ (x : ℕ). Some x) (omega (arith, a, lo)) in
       sym (is k false lo (omega (arith, a, b, d, m, lo, hi, run.2.1)) (subst (λ (o : Option ℕ). IsSomeAnd o (λ y. CalledAt g f y false f)) c (t.1 (k - s.start) (omega (arith, a, d, lo, hi)))))))
+
+  pub found_number : (a n : ℕ) (r : Option ℕ) → a ≡ s.start → n ≡ s.end - s.start → SomeRun nat_range_steps s (λ q. MatchOption r (IsTrue q.whole × NoItemPasses q g f) (EndsAtFirstPassing q g f)) → r ≡ first_from p a n
+  found_number a n r e m run =
+      subst (λ (i : ℕ). r ≡ first_from p i n) (sym e) (subst (λ (j : ℕ). r ≡ first_from p s.start j) (sym m) (found_from_start r run))

@@ -6,4 +6,4 @@ use Rattle.sites.proofs.Ranges.{all_numbers}
 use Rattle.sheets.proofs.fans.are_apart.Goals as goal
 
 pub returns : goal.returns
-returns c = all_numbers _ _ _ (λ i. all_from (λ j. not (eqb (site_at c.args.v i) (site_at c.args.w j))) 0 (length (path_field c.args.w) - 1)) (search rules) (λ k b lo hi h. search rules) (length (path_field c.args.v) - 1) c.all.result (search rules) c.all.ensures.runs
+returns c = all_numbers _ _ _ (λ i. all_from (λ j. not (eqb (site_at c.args.v i) (site_at c.args.w j))) 0 (length (path_field c.args.w) - 1)) (search rules) (λ k b lo hi h. search rules) 0 (length (path_field c.args.v) - 1) c.all.result (search rules) (search rules) c.all.ensures.runs

@@ -4,4 +4,4 @@ use Rattle.sites.proofs.Ranges.{all_numbers}
 use Rattle.sheets.proofs.fans.is_fan.Goals as goal
 
 pub returns : goal.returns
-returns c = all_numbers _ _ _ (joins_fan c.args.run.now) (search rules) (λ k b lo hi h. search rules) (length c.args.run.now) c.all.result (search rules) c.all.ensures.runs
+returns c = all_numbers _ _ _ (joins_fan c.args.run.now) (search rules) (λ k b lo hi h. search rules) 0 (length c.args.run.now) c.all.result (search rules) (search rules) c.all.ensures.runs

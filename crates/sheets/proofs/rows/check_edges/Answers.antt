@@ -1,4 +1,4 @@
-use Rattle.std.proofs.Common.{ap, ◌∙◌, rules}
+use Rattle.std.proofs.Common.{◌-◌, length, ap, ◌∙◌, rules}
 use Rattle.sites.specs.declared.refusal.Refusal.TheVariants.{Edge}
 use Rattle.sheets.specs.Rows.{bad_edge}
 use Rattle.sheets.specs.Refusals.{told}
@@ -6,4 +6,4 @@ use Rattle.sites.proofs.Ranges.{found_number}
 use Rattle.sheets.proofs.rows.check_edges.Goals as goal
 
 pub returns : goal.returns
-returns c = c.told.ensures ∙ ap (told Edge) (found_number _ _ _ (bad_edge c.args.words.now) (search rules) (λ k b lo hi h. search rules) c.find-found.result c.find-found.ensures.runs)
+returns c = c.told.ensures ∙ ap (told Edge) (found_number _ _ _ (bad_edge c.args.words.now) (search rules) (λ k b lo hi h. search rules) 1 (length c.args.words.now - 1) c.find-found.result (search rules) (search rules) c.find-found.ensures.runs)
