@@ -12,6 +12,7 @@ use sites::Refusal;
 impl Round {
     /// An end for a site with a bit, in round 1 of phase 0. Refused with 21 for a site not below the plan's n. Ends at all
     /// sound sites that are driven in step over one air hold the bits that a floor holds: that is the clause `law`.
+    #[tactic(auto, using(crate::proofs::InStep::in_step_law))]
     pub fn begin(plan: &Plan, site: u8, bit: bool) -> Result<Round, Refusal>
         ensures answer { begins result ≡ begin_reply (network plan.now) site bit }
         ensures law { InStepLaw }

@@ -36,6 +36,7 @@ impl Weighing {
 
     /// Weighs the phase and gives round 1 of the next or, after the last, the end. Refused with 14 where the plan has
     /// another n or f than at the start: then the state comes back.
+    #[tactic(auto, using(crate::proofs::Fit::still_here, crate::proofs::Fit::weighed_is))]
     pub fn weigh(self, plan: &Plan, notebook: &Notebook) -> Result<Weighed, (Refusal, Weighing)>
         ensures { Weighs (network plan.now) (seen_weighing self) notebook.now.words result }
     {
