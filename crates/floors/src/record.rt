@@ -9,6 +9,7 @@ pub(crate) struct SiteRecord {
 }
 
 /// The records of the six sites. Those of rogues, and of sites past the last, stay blank.
+// Apart from the tables of `Ground`, by site too: those stay as they are from open to open.
 #[derive(Clone, Copy)]
 pub(crate) struct Records {
     pub(crate) sites: [SiteRecord; 6],

@@ -62,6 +62,7 @@ impl<A: Air> Floor<A> {
         if self.records.of(site).spoken {
             return Err(Refusal::Spoken);
         }
+        // the answer's definition asks for room even where nothing is owed, for lanes beyond their size too
         if self.air.count(site) > self.air.lane_size() {
             return Err(Refusal::LaneFull);
         }

@@ -5,7 +5,7 @@ use crate::refused::HostRefusal;
 use crate::refusing::named_site;
 use runs::Call;
 
-// The call that a code, a site and a word name; nothing for another code.
+// The call that a code, a site and a word name; nothing for another code. Hosts name a call by a number.
 pub(crate) fn named_call(code: u32, site: u32, word: u32) -> Option<Call>
     ensures { result ≡ call_of code site word }
 {

@@ -35,7 +35,7 @@ impl Checked<'_> {
         (0..self.size.sites).all(|from| self.reaches_all(set, from))
     }
 
-    // A row that tests each suspect set: the first that fails is told.
+    // A row that tests each suspect set: the first that fails is told. A loop: suspect sets are had by their numbers.
     fn each_set<F: Fn(SiteMask) -> bool>(
         &self,
         refusal: Refusal,

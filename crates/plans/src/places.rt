@@ -7,6 +7,7 @@ use crate::checked::{Checked, Fans};
 use sheets::fans::first_fan;
 use sheets::parts::{avoids, end_of, rogue_limit, site_count, source_of};
 use sites::{NetworkSize, SiteMask};
+use words::Kind;
 use words::fields::kind_of;
 
 // Whether a word is a route between two sites that avoids a set.
@@ -14,7 +15,10 @@ use words::fields::kind_of;
 fn is_route(word: u32, set: SiteMask, from: u8, to: u8) -> bool
     ensures { result ≡ route_here set.bits from to word }
 {
-    kind_of(word) == 10 && source_of(word) == from && end_of(word) == to && avoids(set, word)
+    kind_of(word) == Kind::Route.number()
+        && source_of(word) == from
+        && end_of(word) == to
+        && avoids(set, word)
 }
 
 // Whether the paths of a run end at a site, begin in a set and avoid another set.

@@ -16,7 +16,8 @@ const PAIR: [u32; 6] = [
     0xB440_0000,
 ];
 
-// Some words in 1,024 places, with zeros past their end.
+// Some words in 1,024 places, with zeros past their end. Paths have the like for six sites: one for both would be a public
+// function with a `requires`.
 fn copied(words: &[u32]) -> [u32; 1024]
     requires { length words.now ≤ 1024 }
     ensures front { take (length words.now) result ≡ words.now }

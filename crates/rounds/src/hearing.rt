@@ -102,7 +102,7 @@ impl Ears {
         ensures tuned { Tuned (A.lanes air.now) self.new }
     {
         let bit = self.ears[path.last as usize].hear(air, path.last, path.front);
-        with_bit(path, bit)
+        with_bit(path.word, bit)
     }
 }
 
@@ -116,6 +116,7 @@ impl Notebook {
         let start = first_of_round(table, round);
         let paths = &table.up_to(round)[start..];
         let mut ears = Ears::new();
+        // the words are counted: a proof knows nothing of a slice that was gone over by `iter_mut` beside another
         for (i, path) in paths.iter().enumerate() {
             self.words[start + i] = ears.hear(air, *path);
         }

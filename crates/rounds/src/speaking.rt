@@ -7,7 +7,7 @@ ghost use Rattle.rounds.specs.Speaking.{Gives, owed_of, put_all_reply, put_all_n
 use crate::notebook::Notebook;
 use airs::Air;
 use sites::Refusal;
-use tables::{ExpectedPath, PathTable};
+use tables::PathTable;
 
 // Puts the words for the places from start up to end in a lane that has room for all of them.
 fn put_each<A: Air, F: Fn(usize) -> u32>(air: &mut A, site: u8, start: usize, end: usize, word: F)
@@ -55,7 +55,7 @@ pub(crate) fn first_of_round(table: &PathTable, round: usize) -> usize
 fn opening_word(bit: bool) -> u32
     ensures { result ≡ (if bit then 0x10000001 else 0x10000000) }
 {
-    if bit { 0x1000_0001 } else { 0x1000_0000 }
+    with_bit(0x1000_0000, bit)
 }
 
 // Puts what the table's site owes in a round: in round 1 the empty path with the bit held, later the words for the
@@ -84,12 +84,12 @@ fn put_owed<A: Air, F: Fn(usize) -> u32>(
     )
 }
 
-// The flood word of an expected path with a bit.
-pub(crate) fn with_bit(path: ExpectedPath, bit: bool) -> u32
-    requires { path.word < 2 ^ 32 - 1 }
-    ensures { result ≡ (if bit then path.word + 1 else path.word) }
+// A flood word with a bit, given with bit 0.
+pub(crate) fn with_bit(word: u32, bit: bool) -> u32
+    requires { word < 2 ^ 32 - 1 }
+    ensures { result ≡ (if bit then word + 1 else word) }
 {
-    if bit { path.word + 1 } else { path.word }
+    word + u32::from(bit)
 }
 
 impl Notebook {
@@ -131,7 +131,7 @@ impl Notebook {
     {
         let paths = table.up_to(round.saturating_sub(1));
         put_owed(air, table, round, bit, |place| {
-            with_bit(paths[place], self.bit_at(place))
+            with_bit(paths[place].word, self.bit_at(place))
         })
     }
 }

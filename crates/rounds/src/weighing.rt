@@ -64,11 +64,11 @@ impl<'a> Heard<'a> {
         requires { AllByRecursion (λ w. is_some (meaning w) ≡ true) fan.now }
         ensures { result ≡ agreed_of own (map (λ w. tells self.now (front (path_field w))) fan.now) }
     {
-        let Some(first) = fan.first() else {
+        let Some((first, others)) = fan.split_first() else {
             return own;
         };
         let bit = self.bit_along(*first);
-        if self.all_bring(&fan[1..], bit) {
+        if self.all_bring(others, bit) {
             bit
         } else {
             own
@@ -77,6 +77,28 @@ impl<'a> Heard<'a> {
 }
 
 impl<'a, P: Routing> Phase<'a, P> {
+    // The phase that a site has heard.
+    fn of(
+        plan: &'a P,
+        table: &'a PathTable,
+        notebook: &'a Notebook,
+        set: SiteMask,
+        own: bool,
+    ) -> Phase<'a, P>
+        ensures plan { result.plan.now ≡ plan.now }
+        ensures table { result.heard.table.now ≡ table.now }
+        ensures notebook { result.heard.notebook.now ≡ notebook.now }
+        ensures set { result.set ≡ set }
+        ensures own { result.own ≡ own }
+    {
+        Phase {
+            plan,
+            heard: Heard { table, notebook },
+            set,
+            own,
+        }
+    }
+
     // The bit that the site has from a site.
     fn bit_from(&self, from: u8) -> bool
         ensures { result ≡ (if nat_eq from self.now.heard.table.now.site then self.now.own else tells self.now.heard (front ((P.network self.now.plan.now).route self.now.set.bits from self.now.heard.table.now.site))) }
@@ -128,29 +150,13 @@ impl Notebook {
     ) -> SiteMask
         ensures { result.bits ≡ zeros_of (P.network plan.now) (told_by (table_network table.now) table.now.site self.now.words) set.bits own table.now.site }
     {
-        let notebook = self;
-        let heard = Heard { table, notebook };
-        let phase = Phase {
-            plan,
-            heard,
-            set,
-            own,
-        };
-        phase.zeros()
+        Phase::of(plan, table, self, set, own).zeros()
     }
 
     /// The bit that the table's site holds from the end of a phase on, where it held `own` and a set was suspected.
     pub fn weigh<P: Routing>(&self, plan: &P, table: &PathTable, set: SiteMask, own: bool) -> bool
         ensures { result ≡ weigh_of (P.network plan.now) (told_by (table_network table.now) table.now.site self.now.words) set.bits own table.now.site }
     {
-        let notebook = self;
-        let heard = Heard { table, notebook };
-        let phase = Phase {
-            plan,
-            heard,
-            set,
-            own,
-        };
-        phase.weigh()
+        Phase::of(plan, table, self, set, own).weigh()
     }
 }

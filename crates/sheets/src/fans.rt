@@ -48,6 +48,7 @@ pub fn is_fan(run: &[u32]) -> bool
 }
 
 /// The place of the first fan path, from which fans are counted off; the sheet's length where it has none.
+// The length and no Option: a sheet without fans has none to count off from there, so that no caller needs a case.
 pub fn first_fan(words: &[u32]) -> usize
     ensures { result ≡ first_fan words.now }
 {

@@ -8,6 +8,7 @@ use crate::wiring::Wiring;
 
 /// The paths along which a site expects a bit, by length, then ascending: place i is place i of the site's notebook.
 /// `ends[k]` is how many of them have at most k sites.
+// An array with the number of its paths beside it: there is no heap, and callers copy tables.
 #[derive(Clone, Copy)]
 pub struct PathTable {
     pub(crate) wiring: Wiring,

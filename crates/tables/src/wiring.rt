@@ -1,6 +1,7 @@
 ghost use Rattle.std.specs.Prelude.{◌≡◌, ℕ, ◌^◌, ◌<◌, ◌≤◌, length, slice_index};
 
 /// The sites and edges of a network: how many sites there are, at most six, and the neighbours of each as a mask.
+// Masks as numbers: what a wired network is reads them as such, and a SiteMask would only be opened each time.
 #[derive(Clone, Copy)]
 pub struct Wiring {
     pub(crate) n: u8,

@@ -3,6 +3,8 @@ ghost use Rattle.words.specs.Layout.{kind_field, path_field, site_fields, with_f
 
 use std::array;
 
+// Numbers for every word and place, 0 where a word names no site: so no function here asks anything of its caller.
+
 /// The kind's number in a word's highest bits, whether or not it is the number of a kind.
 pub fn kind_of(word: u32) -> u32
     ensures { result ≡ kind_field word }
