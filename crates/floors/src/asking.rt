@@ -20,7 +20,8 @@ impl<A: Air> Floor<A> {
     // How many rounds a phase has.
     pub(crate) fn rounds(&self) -> usize
         ensures value { result ≡ (view A.lanes self.now).net.n - 1 }
-        ensures some { 1 ≤ result }
+        ensures least { 1 ≤ result }
+        ensures most { result ≤ 5 }
     {
         self.site_count() as usize - 1
     }

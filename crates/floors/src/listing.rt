@@ -21,6 +21,7 @@ impl<A: Air> Floor<A> {
         ensures guarantee { Performed A.size (view A.lanes self.old) (take result calls.now) (take result answers.new) (view A.lanes self.new) }
     {
         let count = calls.len().min(answers.len());
+        // Answers by their index: what `zip` with `iter_mut` leaves in a slice is not known to a proof.
         for (i, call) in calls[..count].iter().enumerate() {
             answers[i] = self.perform_one(*call);
         }
