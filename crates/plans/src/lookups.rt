@@ -39,6 +39,7 @@ impl Plan {
     }
 
     /// The words of its sheet. The network of every plan is lawful.
+    #[tactic(auto, using(crate::proofs::Wholes::plan_lawful))]
     pub fn words(&self) -> &[u32]
         ensures value { result.now ≡ sheet self.now }
         ensures lawful { Lawful (network self.now) }
@@ -75,6 +76,7 @@ impl Plan {
     }
 
     /// How many suspect sets there are: the sets of at most f of the n sites.
+    #[tactic(auto, using(sites::proofs::Suspects::suspects_law), unfolding(crate::specs::Plans::network))]
     pub fn suspect_count(&self) -> usize
         ensures value { result ≡ length (suspects (network self.now).n (network self.now).f) }
         ensures law { SuspectsLaw (network self.now).n (network self.now).f }
