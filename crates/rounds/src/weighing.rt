@@ -64,11 +64,11 @@ impl<'a> Heard<'a> {
         requires { AllByRecursion (λ w. is_some (meaning w) ≡ true) fan.now }
         ensures { result ≡ agreed_of own (map (λ w. tells self.now (front (path_field w))) fan.now) }
     {
-        let Some((first, others)) = fan.split_first() else {
+        let Some(first) = fan.first() else {
             return own;
         };
         let bit = self.bit_along(*first);
-        if self.all_bring(others, bit) {
+        if self.all_bring(&fan[1..], bit) {
             bit
         } else {
             own

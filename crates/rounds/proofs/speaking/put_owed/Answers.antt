@@ -1,8 +1,8 @@
-use Rattle.std.proofs.Common.{◌≡◌, ℕ, ◌+◌, ◌-◌, Bool, true, false, cond, eqb, List, [], ◌∷◌, length, get_or, sym, refl, ap, ◌∙◌, subst, arith, rules}
+use Rattle.std.proofs.Common.{◌≡◌, ℕ, ◌+◌, ◌-◌, Bool, cond, List, [], ◌∷◌, length, get_or, sym, refl, ap, ◌∙◌, subst, arith, rules}
 use Rattle.std.proofs.lemmas.Bool.{eq-eqb, ne_eqb}
 use Rattle.airs.specs.Lanes.{Lanes}
 use Rattle.notebooks.specs.Floods.{flood_word}
-use Rattle.tables.specs.Tables.{table_network, table_level, table_paths}
+use Rattle.tables.specs.Tables.{table_level, table_paths}
 use Rattle.tables.specs.declared.table.PathTable.{PathTable}
 use Rattle.tables.proofs.TableFacts.{counts_rise}
 use Rattle.rounds.specs.Speaking.{owed_of, put_all_reply, put_all_next}

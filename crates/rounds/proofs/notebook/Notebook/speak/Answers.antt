@@ -1,6 +1,6 @@
-use Rattle.std.proofs.Common.{◌≡◌, ℕ, ◌+◌, ◌-◌, ◌<◌, List, length, get_or, sym, ap, ◌∙◌, arith, rules}
-use Rattle.tables.specs.Tables.{table_network, table_level, table_paths}
-use Rattle.tables.proofs.TableFacts.{counts_rise, few}
+use Rattle.std.proofs.Common.{◌≡◌, ◌+◌, ◌-◌, ◌<◌, length, get_or, sym, ◌∙◌, arith, rules}
+use Rattle.tables.specs.Tables.{table_network, table_paths}
+use Rattle.tables.proofs.TableFacts.{few}
 use Rattle.notebooks.specs.Notebooks.{owed_words, round_words}
 use Rattle.rounds.proofs.Spoken.{words_length, word_at}
 use Rattle.rounds.proofs.notebook.Notebook.speak.Goals as goal

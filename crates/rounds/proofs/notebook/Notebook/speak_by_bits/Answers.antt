@@ -1,8 +1,7 @@
-use Rattle.std.proofs.Common.{◌≡◌, ℕ, ◌+◌, ◌-◌, ◌^◌, ◌<◌, cond, List, map, length, get_or, sym, ap, ◌∙◌, arith, rules}
+use Rattle.std.proofs.Common.{◌≡◌, ℕ, ◌+◌, ◌-◌, ◌^◌, ◌<◌, cond, map, length, get_or, sym, ap, ◌∙◌, arith, rules}
 use Rattle.std.proofs.lemmas.List.{length-map}
 use Rattle.tables.specs.Entries.{entry_of, no_entry}
-use Rattle.tables.specs.Tables.{table_network, table_level, table_paths}
-use Rattle.tables.proofs.TableFacts.{counts_rise, few}
+use Rattle.tables.specs.Tables.{table_network, table_paths}
 use Rattle.notebooks.specs.Notebooks.{owed_by_bits, noted_round, bit_at}
 use Rattle.rounds.proofs.Notes.{hearable}
 use Rattle.rounds.proofs.Spoken.{round_length, round_word}

@@ -1,4 +1,4 @@
-use Rattle.std.proofs.Common.{◌≡◌, ℕ, Bool, true, List, is_some, refl, rules, tests}
+use Rattle.std.proofs.Common.{◌≡◌, ℕ, Bool, true, is_some, rules, tests}
 use Rattle.std.proofs.lemmas.Iterator.{cases_from_all, YieldsList-from_slice}
 use Rattle.sites.specs.Lists.{front}
 use Rattle.words.specs.Layout.{path_field}
