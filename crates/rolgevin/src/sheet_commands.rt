@@ -78,19 +78,23 @@ impl fmt::Display for Placed<'_> {
     }
 }
 
+// The items that a reader gives, a space before each.
+#[derive(Clone, Copy)]
+struct Listed<'a>(Reader<'a>);
+
+impl fmt::Display for Listed<'_> {
+    fn fmt<W: fmt::Write>(&self, f: &mut fmt::Formatter<W>) -> fmt::Result {
+        for item in self.0 {
+            write!(f, " {}", Placed(item))?;
+        }
+        Ok(())
+    }
+}
+
 // The items of a sheet.
 fn items(words: &[u32], reply: &mut String) -> Result<(), Fault> {
-    let mut reader = Reader::open(words)?;
-    let mut count: usize = 0;
-    write!(reply, "ok")?;
-    for turn in 0..words.len() {
-        let Some(item) = reader.next() else {
-            break;
-        };
-        count = turn + 1;
-        write!(reply, " {}", Placed(item))?;
-    }
-    write!(reply, "  # {count} items")?;
+    let reader = Reader::open(words)?;
+    write!(reply, "ok{}  # {} items", Listed(reader), reader.count())?;
     Ok(())
 }
 
