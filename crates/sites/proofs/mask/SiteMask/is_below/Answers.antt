@@ -16,4 +16,4 @@ quotient_none w p h =
     (cases_lt w p)
 
 pub returns-else-n-ge32 : goal.returns-else-n-ge32
-returns-else-n-ge32 c = rw c.from_place.ensures (quotient_none c.args.self.now.bits (2 ^ c.args.n) (pow_pos c.args.n))
+returns-else-n-ge32 c = quotient_none c.args.self.now.bits (2 ^ c.args.n) (pow_pos c.args.n)
