@@ -8,7 +8,9 @@ ghost use Rattle.sheets.specs.Refusals.{told, well_formed};
 ghost use Rattle.sheets.specs.Steps.{path_told, wired, ReadsAt};
 
 use crate::fans::{fan_size, first_fan, is_fan, run_at};
-use crate::parts::{EDGE, FAN, ROUTE, are_joined, head_of, site_count};
+use crate::parts::{
+    EDGE, FAN, ROUTE, are_joined, head_of, rogue_limit_of, site_count, site_count_of, sites_of_edge,
+};
 use crate::refusal::SheetRefusal;
 use sites::Refusal;
 use words::PathWord;
@@ -36,8 +38,7 @@ fn check_size(words: &[u32]) -> Result<(), SheetRefusal>
 fn is_head(word: u32) -> bool
     ensures { result ≡ head? word }
 {
-    let n = word / 16 % 16;
-    word / 256 == 0x80_0000 && (2..=6).contains(&n) && word % 16 <= 2
+    word / 256 == 0x80_0000 && (2..=6).contains(&site_count_of(word)) && rogue_limit_of(word) <= 2
 }
 
 // Row 2: its first word is a head.
@@ -63,9 +64,8 @@ fn check_kinds(words: &[u32]) -> Result<(), SheetRefusal>
 fn is_edge(n: u8, word: u32) -> bool
     ensures { result ≡ edge? n word }
 {
-    let low = word / 8 % 8;
-    let high = word % 8;
-    word < 0x9000_0040 && low < high && high < u32::from(n)
+    let (low, high) = sites_of_edge(word);
+    word < 0x9000_0040 && low < high && high < n
 }
 
 // Row 4: each edge joins two different sites below n, the lower first, and is above the word before.
