@@ -60,7 +60,7 @@ pub fn first_fan(words: &[u32]) -> usize
 pub(crate) fn fan_size(words: &[u32]) -> usize
     ensures { result ≡ rogue_limit words.now + 1 }
 {
-    rogue_limit(words) as usize + 1
+    usize::from(rogue_limit(words)) + 1
 }
 
 /// The f + 1 words from a place on, or what is left of the sheet.

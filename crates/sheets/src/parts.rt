@@ -2,6 +2,7 @@ ghost use Rattle.std.specs.Prelude.{◌≡◌, ◌-◌, ◌/◌, ◌%◌};
 ghost use Rattle.sheets.specs.Parts.{source, end, avoids as does_avoid, edge_word, word_at, site_count, rogue_limit, joined};
 
 use sites::SiteMask;
+use words::Kind;
 use words::fields::{count_of, site_of};
 
 // The kinds of a sheet's words. Numbers and no enum: rows 3 and 5 also compare the numbers of words that have none of these kinds.
@@ -9,9 +10,9 @@ pub(crate) const HEAD: u32 = 8;
 
 pub(crate) const EDGE: u32 = 9;
 
-pub(crate) const ROUTE: u32 = 10;
+pub(crate) const ROUTE: u32 = Kind::Route as u32;
 
-pub(crate) const FAN: u32 = 11;
+pub(crate) const FAN: u32 = Kind::Fan as u32;
 
 // The first word of a sheet; 0 where it has none.
 pub(crate) fn head_of(words: &[u32]) -> u32
