@@ -14,7 +14,7 @@ pub(crate) struct Checked<'a> {
     ghost rogues: { size.rogues ≡ rogue_limit words.now },
 }
 
-// Its fans stand one behind the other from the first fan path on.
+// A sheet that passed rows 1 to 6, with the place of its first fan path, from which its fans stand one behind the other.
 #[derive(Clone, Copy)]
 pub(crate) struct Fans<'a> {
     pub(crate) sheet: Checked<'a>,

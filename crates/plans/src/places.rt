@@ -71,7 +71,7 @@ impl<'a> Fans<'a> {
         ensures { result ≡ fan_place self.now.sheet.words.now set.bits at among.bits }
     {
         let start = self.start;
-        let size = self.sheet.size.rogues as usize + 1;
+        let size = usize::from(self.sheet.size.rogues) + 1;
         let fans = &self.sheet.words[start..];
         fans.chunks_exact(size)
             .position(|run| is_serving(run, set, at, among))

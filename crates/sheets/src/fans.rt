@@ -1,7 +1,7 @@
-ghost use Rattle.std.specs.Prelude.{◌≡◌, ◌+◌, ◌-◌, ◌<◌, not, length, ◌==◌, slice_index};
+ghost use Rattle.std.specs.Prelude.{◌≡◌, ◌+◌, ◌-◌, ◌<◌, not, ◌&&◌, length, ◌==◌, slice_index};
 ghost use Rattle.sites.specs.Positions.{all_from};
 ghost use Rattle.words.specs.Layout.{path_field};
-ghost use Rattle.sheets.specs.Parts.{site_at, apart, joins_fan, fan?, rogue_limit};
+ghost use Rattle.sheets.specs.Parts.{site_at, end, apart, fan?, rogue_limit};
 ghost use Rattle.sheets.specs.Rows.{first_fan, run_at};
 
 use crate::parts::{FAN, end_of, rogue_limit};
@@ -24,27 +24,26 @@ fn are_apart(v: u32, w: u32) -> bool
     (0..stop).all(|i| is_off(v, i, w))
 }
 
-// Whether a path of a run shares no site but its end with those before it.
-fn is_apart_from_earlier(run: &[u32], k: usize) -> bool
-    requires { k < length run.now }
-    ensures { result ≡ all_from (λ j. apart (slice_index run.now j) (slice_index run.now k)) 0 k }
+// Whether a path shares no site but its end with some earlier ones.
+fn is_apart_from_earlier(earlier: &[u32], word: u32) -> bool
+    ensures { result ≡ all_from (λ j. apart (slice_index earlier.now j) word) 0 (length earlier.now) }
 {
-    (0..k).all(|j| are_apart(run[j], run[k]))
+    earlier.iter().all(|other| are_apart(*other, word))
 }
 
-// Whether a path of a run ends where the first one does, and shares no other site with those before it.
-fn joins_fan(run: &[u32], k: usize) -> bool
-    requires { k < length run.now }
-    ensures { result ≡ joins_fan run.now k }
+// Whether a path ends where the first one of its run does, and shares no other site with those before it.
+fn joins_fan(earlier: &[u32], first: u32, word: u32) -> bool
+    ensures { result ≡ (end word == end first && all_from (λ j. apart (slice_index earlier.now j) word) 0 (length earlier.now)) }
 {
-    end_of(run[k]) == end_of(run[0]) && is_apart_from_earlier(run, k)
+    end_of(word) == end_of(first) && is_apart_from_earlier(earlier, word)
 }
 
 /// Whether the paths of a run end at one site and share no other.
 pub fn is_fan(run: &[u32]) -> bool
     ensures { result ≡ fan? run.now }
 {
-    (0..run.len()).all(|k| joins_fan(run, k))
+    // over places: with `enumerate` the search for what the chain tells does not end at a call over a part of the run
+    (0..run.len()).all(|k| joins_fan(&run[..k], run[0], run[k]))
 }
 
 /// The place of the first fan path, from which fans are counted off; the sheet's length where it has none.
@@ -61,7 +60,7 @@ pub fn first_fan(words: &[u32]) -> usize
 pub(crate) fn fan_size(words: &[u32]) -> usize
     ensures { result ≡ rogue_limit words.now + 1 }
 {
-    rogue_limit(words) as usize + 1
+    usize::from(rogue_limit(words)) + 1
 }
 
 /// The f + 1 words from a place on, or what is left of the sheet.

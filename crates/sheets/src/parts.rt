@@ -1,7 +1,8 @@
-ghost use Rattle.std.specs.Prelude.{◌≡◌, ◌-◌};
+ghost use Rattle.std.specs.Prelude.{◌≡◌, ◌-◌, ◌/◌, ◌%◌};
 ghost use Rattle.sheets.specs.Parts.{source, end, avoids as does_avoid, edge_word, word_at, site_count, rogue_limit, joined};
 
 use sites::SiteMask;
+use words::Kind;
 use words::fields::{count_of, site_of};
 
 // The kinds of a sheet's words. Numbers and no enum: rows 3 and 5 also compare the numbers of words that have none of these kinds.
@@ -9,9 +10,9 @@ pub(crate) const HEAD: u32 = 8;
 
 pub(crate) const EDGE: u32 = 9;
 
-pub(crate) const ROUTE: u32 = 10;
+pub(crate) const ROUTE: u32 = Kind::Route as u32;
 
-pub(crate) const FAN: u32 = 11;
+pub(crate) const FAN: u32 = Kind::Fan as u32;
 
 // The first word of a sheet; 0 where it has none.
 pub(crate) fn head_of(words: &[u32]) -> u32
@@ -20,18 +21,39 @@ pub(crate) fn head_of(words: &[u32]) -> u32
     words.first().copied().unwrap_or(0)
 }
 
+// How many sites a head tells.
+pub(crate) fn site_count_of(word: u32) -> u8
+    ensures { result ≡ word / 16 % 16 }
+{
+    (word / 16 % 16) as u8
+}
+
+// How many sites may be rogue, as a head tells.
+pub(crate) fn rogue_limit_of(word: u32) -> u8
+    ensures { result ≡ word % 16 }
+{
+    (word % 16) as u8
+}
+
+// The two sites of an edge, the lower first in a lawful one.
+pub(crate) fn sites_of_edge(word: u32) -> (u8, u8)
+    ensures { (result.0 ≡ word / 8 % 8) × (result.1 ≡ word % 8) }
+{
+    ((word / 8 % 8) as u8, (word % 8) as u8)
+}
+
 /// How many sites the head tells.
 pub fn site_count(words: &[u32]) -> u8
     ensures { result ≡ site_count words.now }
 {
-    (head_of(words) / 16 % 16) as u8
+    site_count_of(head_of(words))
 }
 
 /// How many sites may be rogue, as the head tells.
 pub fn rogue_limit(words: &[u32]) -> u8
     ensures { result ≡ rogue_limit words.now }
 {
-    (head_of(words) % 16) as u8
+    rogue_limit_of(head_of(words))
 }
 
 // The edge between two sites.

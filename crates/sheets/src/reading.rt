@@ -3,20 +3,13 @@ ghost use Rattle.std.specs.Option.{option_map};
 ghost use Rattle.sheets.specs.Items.{part_of, words_of, item_at, Opens, ReadingLaw, ReadsNext, words_left};
 
 use crate::fans::run_at;
-use crate::parts::{EDGE, FAN, HEAD};
+use crate::parts::{EDGE, FAN, HEAD, rogue_limit_of, site_count_of, sites_of_edge};
 use crate::reader::{Item, Reader};
 use crate::refusal::SheetRefusal;
 use crate::rows::check;
 use words::fields::kind_of;
 
 impl<'a> Reader<'a> {
-    // A reader before the first of some words.
-    fn at_start(words: &'a [u32]) -> Reader<'a>
-        ensures { (result.words.now ≡ words.now) × (result.at ≡ 0) }
-    {
-        Reader { words, at: 0 }
-    }
-
     /// A reader before the first word of a sheet; refused as the check of rows 1 to 6 refuses it.
     pub fn open(words: &'a [u32]) -> Result<Reader<'a>, SheetRefusal>
         ensures answer { Opens words.now result }
@@ -24,7 +17,7 @@ impl<'a> Reader<'a> {
         ensures reading { ReadingLaw words.now }
     {
         check(words)?;
-        Ok(Reader::at_start(words))
+        Ok(Reader { words, at: 0 })
     }
 }
 
@@ -47,14 +40,13 @@ impl<'a> Item<'a> {
         Some(match kind_of(word) {
             HEAD => Item::Head {
                 place,
-                sites: (word / 16 % 16) as u8,
-                rogues: (word % 16) as u8,
+                sites: site_count_of(word),
+                rogues: rogue_limit_of(word),
             },
-            EDGE => Item::Edge {
-                place,
-                low: (word / 8 % 8) as u8,
-                high: (word % 8) as u8,
-            },
+            EDGE => {
+                let (low, high) = sites_of_edge(word);
+                Item::Edge { place, low, high }
+            }
             FAN => Item::Fan {
                 place,
                 run: run_at(words, place),

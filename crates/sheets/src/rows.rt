@@ -8,7 +8,9 @@ ghost use Rattle.sheets.specs.Refusals.{told, well_formed};
 ghost use Rattle.sheets.specs.Steps.{path_told, wired, ReadsAt};
 
 use crate::fans::{fan_size, first_fan, is_fan, run_at};
-use crate::parts::{EDGE, FAN, ROUTE, are_joined, head_of, site_count};
+use crate::parts::{
+    EDGE, FAN, ROUTE, are_joined, head_of, rogue_limit_of, site_count, site_count_of, sites_of_edge,
+};
 use crate::refusal::SheetRefusal;
 use sites::Refusal;
 use words::PathWord;
@@ -32,11 +34,11 @@ fn check_size(words: &[u32]) -> Result<(), SheetRefusal>
     told(Refusal::SheetSize, (!fits).then_some(0))
 }
 
+// Whether a word is a head: 2 to 6 sites, at most two of them rogue, and no other bits.
 fn is_head(word: u32) -> bool
     ensures { result ≡ head? word }
 {
-    let n = word / 16 % 16;
-    word / 256 == 0x80_0000 && (2..=6).contains(&n) && word % 16 <= 2
+    word / 256 == 0x80_0000 && (2..=6).contains(&site_count_of(word)) && rogue_limit_of(word) <= 2
 }
 
 // Row 2: its first word is a head.
@@ -47,6 +49,7 @@ fn check_head(words: &[u32]) -> Result<(), SheetRefusal>
 }
 
 // Row 3: each later kind is 9, 10 or 11, and not below the kind before.
+// Over places, as rows 4 and 6: the place is the answer, and a chain over words would have to add 1 to what it finds.
 fn check_kinds(words: &[u32]) -> Result<(), SheetRefusal>
     ensures { result ≡ told Kind (kind_fault words.now) }
 {
@@ -57,12 +60,12 @@ fn check_kinds(words: &[u32]) -> Result<(), SheetRefusal>
     told(Refusal::Kind, found)
 }
 
+// Whether a word is an edge that joins two different sites below n, the lower first.
 fn is_edge(n: u8, word: u32) -> bool
     ensures { result ≡ edge? n word }
 {
-    let low = word / 8 % 8;
-    let high = word % 8;
-    word < 0x9000_0040 && low < high && high < u32::from(n)
+    let (low, high) = sites_of_edge(word);
+    word < 0x9000_0040 && low < high && high < n
 }
 
 // Row 4: each edge joins two different sites below n, the lower first, and is above the word before.
@@ -77,6 +80,7 @@ fn check_edges(words: &[u32]) -> Result<(), SheetRefusal>
     told(Refusal::Edge, found)
 }
 
+// Whether all of some sites are below n.
 fn are_below(sites: &[u8], n: u8) -> bool
     ensures { result ≡ all_from (λ j. nat_lt (slice_index sites.now j) n) 0 (length sites.now) }
 {
@@ -87,8 +91,9 @@ fn are_below(sites: &[u8], n: u8) -> bool
 fn are_linked(words: &[u32], sites: &[u8]) -> bool
     ensures { result ≡ all_from (λ j. joined words.now (slice_index sites.now j) (slice_index sites.now (j + 1))) 0 (length sites.now - 1) }
 {
-    let stop = sites.len().saturating_sub(1);
-    (0..stop).all(|j| are_joined(words, sites[j], sites[j + 1]))
+    sites
+        .windows(2)
+        .all(|pair| are_joined(words, pair[0], pair[1]))
 }
 
 // Whether sites are below n and successive ones are joined.
@@ -116,13 +121,16 @@ fn check_path(words: &[u32], i: usize) -> Result<(), SheetRefusal>
     }
     let path = path_at(words, i)?.path();
     if !are_wired(words, path.sites()) {
-        return told(Refusal::Path, Some(i));
+        return Err(SheetRefusal {
+            refusal: Refusal::Path,
+            place: i,
+        });
     }
     Ok(())
 }
 
-// Row 5: each route and fan path is lawful, over sites below n, along edges. A loop and no search: the word reader's
-// refusal is passed up as it is.
+// Row 5: each route and fan path is lawful, over sites below n, along edges.
+// A loop over places and no search: a refusal holds the place, and a search would drop the one that the word reader gives.
 fn check_paths(words: &[u32]) -> Result<(), SheetRefusal>
     ensures { result ≡ told Path (path_fault words.now) }
 {

@@ -1,18 +1,10 @@
-ghost use Rattle.std.specs.Prelude.{◌≡◌, ◌/◌, ◌^◌, ◌<◌, bit_and, count_ones, nat_lt};
+ghost use Rattle.std.specs.Prelude.{◌≡◌, ◌^◌, bit_and, count_ones, nat_lt};
 ghost use Rattle.sites.specs.Sets.{in_set};
 
 /// A set of sites: site s is in it where bit s is set, bit 0 lowest.
 #[derive(Clone, Copy, PartialEq, Eq, Debug)]
 pub struct SiteMask {
     pub bits: u32,
-}
-
-// The bits from place n on.
-fn from_place(bits: u32, n: u8) -> u32
-    requires { n < 32 }
-    ensures { result ≡ bits / 2 ^ n }
-{
-    bits >> n
 }
 
 impl SiteMask {
@@ -36,7 +28,7 @@ impl SiteMask {
         ensures { result ≡ nat_lt self.now.bits (2 ^ n) }
     {
         let bits = self.bits;
-        n >= 32 || from_place(bits, n) == 0
+        n >= 32 || bits >> n == 0
     }
 
     /// The sites that are in both sets.

@@ -23,7 +23,7 @@ impl NetworkSize {
     pub fn suspect_count(&self) -> usize
         ensures { result ≡ length (suspects self.now.sites self.now.rogues) }
     {
-        let n = self.sites as usize;
+        let n = usize::from(self.sites);
         match self.rogues {
             0 => 1,
             1 => 1 + n,
@@ -37,7 +37,7 @@ impl NetworkSize {
         requires { k < length (suspects self.now.sites self.now.rogues) }
         ensures { result ≡ slice_index (suspects self.now.sites self.now.rogues) k }
     {
-        let n = self.sites as usize;
+        let n = usize::from(self.sites);
         if k == 0 {
             return 0;
         }
@@ -62,14 +62,14 @@ impl NetworkSize {
     pub fn is_suspect(&self, set: SiteMask) -> bool
         ensures { result ≡ suspect? self.now.sites self.now.rogues set.bits }
     {
-        set.is_below(self.sites) && set.count() <= self.rogues as u32
+        set.is_below(self.sites) && set.count() <= u32::from(self.rogues)
     }
 
     // Half of the rogues, rounded down: how many suspects a set may have and still be trusted.
     fn half(&self) -> u32
         ensures { result ≡ self.now.rogues / 2 }
     {
-        self.rogues as u32 / 2
+        u32::from(self.rogues) / 2
     }
 
     /// The set A of the sites that keep their bits when a phase is weighed, where a set is suspected and the sites of Z
@@ -85,7 +85,7 @@ impl NetworkSize {
     pub fn keepers(&self, set: SiteMask, zeros: SiteMask) -> SiteMask
         ensures { result.bits ≡ keepers self.now.sites self.now.rogues set.bits zeros.bits }
     {
-        let limit = self.rogues as u32;
+        let limit = u32::from(self.rogues);
         let rest = SiteMask {
             bits: self.all().bits.saturating_sub(zeros.bits),
         };

@@ -49,7 +49,7 @@ pub(crate) fn packed(top: u32, sites: &[u8; 6], tail: u8) -> u32
     requires { (top < 128) × ((((k : ℕ) → k < 6 → slice_index sites.now k < 6)) × (tail < 16)) }
     ensures { result ≡ with_fields top sites.now * 128 + tail }
 {
-    joined(top, sites) * 128 + tail as u32
+    joined(top, sites) * 128 + u32::from(tail)
 }
 
 // The fields of six sites, below the kind and the count.

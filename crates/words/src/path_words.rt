@@ -47,12 +47,14 @@ impl PathWord {
         fields::packed(top, &self.path.sites, self.tail)
     }
 
+    /// What it is for.
     pub fn kind(&self) -> Kind
         ensures { result ≡ self.now.kind }
     {
         self.kind
     }
 
+    /// The sites that it names, in their order.
     pub fn path(&self) -> Path
         ensures { result ≡ self.now.path }
     {

@@ -1,7 +1,11 @@
-use Rattle.std.proofs.Common.{◌+◌, ◌-◌, length, get_or, rules}
+use Rattle.std.proofs.Common.{ℕ, ◌+◌, ◌-◌, ◌<◌, length, get_or, IsTrue, ◌↔◌, rules, arith}
+use Rattle.std.proofs.iter.runs.Made.{chains}
+use Rattle.sites.proofs.Positions.{each_is}
 use Rattle.sheets.specs.Parts.{joined}
-use Rattle.sites.proofs.Ranges.{all_numbers}
 use Rattle.sheets.proofs.rows.are_linked.Goals as goal
 
 pub returns : goal.returns
-returns c = all_numbers _ _ _ (λ j. joined c.args.words.now (get_or c.args.sites.now j 0) (get_or c.args.sites.now (j + 1) 0)) (search rules) (λ k b lo hi h. search rules) 0 (length c.args.sites.now - 1) c.all.result (search rules) (search rules) c.all.ensures.runs
+returns c =
+    let s = c.args.sites.now in
+    let h : IsTrue c.all.result ↔ ((k : ℕ) → k + 1 < length s → IsTrue (joined c.args.words.now (get_or s k 0) (get_or s (k + 1) 0))) = search (rules, chains) in
+    each_is _ (length s - 1) c.all.result (λ t k l. h.0 t k (omega arith), λ f. h.1 (λ k l. f k (omega arith)))

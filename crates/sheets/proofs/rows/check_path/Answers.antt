@@ -10,7 +10,7 @@ returns-then-not-are_wired c =
     let ws = c.args.words.now in
     let t = path_tested ws (word_at ws c.args.i) (meaning_of c.in_ok-path_at.field-0) c.in_ok-path_at.ensures in
     let s = ap (wired ws) (c.sites.ensures ∙ ap sites_of c.path-path.ensures) in
-    c.told.ensures ∙ path_fails ws c.args.i (omega arith) (t ∙ sym s ∙ sym c.are_wired.ensures ∙ c.if-not-are_wired.true)
+    path_fails ws c.args.i (omega arith) (t ∙ sym s ∙ sym c.are_wired.ensures ∙ c.if-not-are_wired.true)
 
 pub returns : goal.returns
 returns c =

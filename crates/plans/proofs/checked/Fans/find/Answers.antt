@@ -19,7 +19,7 @@ returns c =
     let run = c.position.ensures.runs in
     let whole : take (length ws - c.args.self.now.start) (drop c.args.self.now.start ws) ≡ drop c.args.self.now.start ws = take_rest ws c.args.self.now.start in
     let ch : IsChunksExactRun run.0 n (drop (first_fan ws) ws) =
-    chunks_same run.0 (chunks_exact_size run.0.from) n (chunks_exact_rest run.0.from) (drop (first_fan ws) ws) (ap chunks_exact_size run.1 ∙ c.chunks_exact.ensures.size)
+    chunks_same run.0 (chunks_exact_size run.0.from) n (chunks_exact_rest run.0.from) (drop (first_fan ws) ws) (ap chunks_exact_size run.1 ∙ c.chunks_exact.ensures.size ∙ ap (λ (x : ℕ). x + 1) c.from.ensures)
     (ap chunks_exact_rest run.1 ∙ c.chunks_exact.ensures.rest ∙ whole ∙ ap (λ (x : ℕ). drop x ws) c.args.self.now.first) (c.chunks_exact.ensures.runs run.0 run.0.seen (search rules)) in
     let h : MatchOption c.position.result ((k : ℕ) → k * n + n ≤ length (drop (first_fan ws) ws) → serves_fan F v A (take n (drop (k * n) (drop (first_fan ws) ws))) ≡ false)
     (λ m. (m * n + n ≤ length (drop (first_fan ws) ws)) × (serves_fan F v A (take n (drop (m * n) (drop (first_fan ws) ws))) ≡ true) × ((k : ℕ) → k < m → serves_fan F v A (take n (drop (k * n) (drop (first_fan ws) ws))) ≡ false)) =

@@ -1,4 +1,4 @@
-use Rattle.std.proofs.Common.{◌≡◌, ℕ, ◌/◌, ◌^◌, ◌<◌, ◌≤◌, eqb, ltb, sym, ◌∙◌, ⊎_elim, arith, pow_mono}
+use Rattle.std.proofs.Common.{◌≡◌, ℕ, ◌/◌, ◌^◌, ◌<◌, ◌≤◌, eqb, ltb, sym, ◌∙◌, ⊎_elim, arith, rules, pow_mono}
 use native.Mathlib.Nat.{div-eq_of_lt}
 use Rattle.std.proofs.lemmas.Bool.Decides.{nat_tests}
 use Rattle.std.proofs.lemmas.Bool.{cases_lt, eq-eqb, ne_eqb, lt-ltb, le-ltb}
@@ -16,4 +16,4 @@ quotient_none w p h =
     (cases_lt w p)
 
 pub returns-else-n-ge32 : goal.returns-else-n-ge32
-returns-else-n-ge32 c = rw c.from_place.ensures (quotient_none c.args.self.now.bits (2 ^ c.args.n) (pow_pos c.args.n))
+returns-else-n-ge32 c = search (rules, quotient_none c.args.self.now.bits (2 ^ c.args.n) (pow_pos c.args.n))
