@@ -38,7 +38,7 @@ fn pass<A: Air>(air: &A, site: u8, wanted: u32, start: usize) -> usize
 fn search<A: Air>(air: &A, site: u8, wanted: u32, start: usize) -> bool
     ensures { result ≡ first_of_two wanted (drop start (lane (A.lanes air.now) site)) }
 {
-    // two tests in a loop: a function that gives the bit of a word costs a quarter more instructions
+    // two tests in a loop: a function from a word to its bit was tried, and costs a quarter more instructions
     for k in start..air.count(site) {
         if let Some(word) = air.at(site, k) {
             if word == wanted {
@@ -85,7 +85,7 @@ impl Ear {
 }
 
 impl Ears {
-    // Ears that have not heard anything.
+    // Nothing is read yet.
     fn new() -> Ears
         ensures { (ls : Lanes) → Tuned ls result }
     {

@@ -21,8 +21,7 @@ pub(crate) fn front_of(path: &Path) -> Path
 
 // The flood word, with bit 0, of a path without its last site.
 pub(crate) fn front_word(path: &Path) -> u32
-    ensures value { result ≡ path_word (front (sites_of path.now)) }
-    ensures bound { result < 2 ^ 32 - 1 }
+    ensures { result ≡ path_word (front (sites_of path.now)) }
 {
     PathWord::new(Kind::Flood, front_of(path), 0)
         .unwrap()

@@ -16,6 +16,7 @@ fn put_each<A: Air, F: Fn(usize) -> u32>(air: &mut A, site: u8, places: Range<us
     requires callable { (k : ℕ) → places.start ≤ k → k < places.end → F.pre word k }
     ensures { (ws : List ℕ) → length ws ≡ places.end - places.start → Gives (F.post word) places.start ws → A.lanes air.new ≡ added (A.lanes air.old) site ws }
 {
+    // by its ends: a loop over the range as it is tells a proof its numbers only by the steps of an iterator
     for place in places.start..places.end {
         let _ = air.put(site, word(place));
     }

@@ -1,4 +1,4 @@
-use Rattle.std.proofs.Common.{ℕ, ◌+◌, ◌≡◌, ◌<◌, ◌≤◌, List, length, sym, ◌∙◌, arith}
+use Rattle.std.proofs.Common.{◌+◌, ◌≡◌, ◌<◌, length, sym, ◌∙◌, arith}
 use Rattle.airs.specs.Lanes.{lane}
 use Rattle.rounds.proofs.Scans.{first_zero, first_one, first_skip, never_none}
 use Rattle.rounds.proofs.hearing.search.Goals as goal
