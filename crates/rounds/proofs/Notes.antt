@@ -114,7 +114,6 @@ module _ (t : PathTable) (r : ℕ) where
   -- an entry can be heard
   pub record Hearable (e : ExpectedPath) : Type 0 where
     pub low_last : e.last < 6
-    pub low_front : e.front < 2 ^ 32 - 1
     pub low_word : e.word < 2 ^ 32 - 1
 
   entry_hearable : (ps : List (List ℕ)) (es : List ExpectedPath) (i : ℕ) → ((p : List ℕ) → In p ps → Carried p) → es ≡ map entry_of ps → i < length es → Hearable (get_or es i no_entry)
@@ -123,7 +122,7 @@ module _ (t : PathTable) (r : ℕ) where
       let p : List ℕ = get_or ps i [] in
       let same : get_or es i no_entry ≡ entry_of p = ap (λ (x : List ExpectedPath). get_or x i no_entry) is ∙ get_or-map entry_of ps i [] no_entry inside in
       let c : Carried p = all p (get_or_in ps [] i inside) in
-      let h : Hearable (entry_of p) = record { low_last = final_small p c.path; low_front = word_small (front p) (front_carried p c.path); low_word = word_small p c } in
+      let h : Hearable (entry_of p) = record { low_last = final_small p c.path; low_word = word_small p c } in
       subst Hearable (sym same) h
 
   pub level_hearable : (es : List ExpectedPath) (i : ℕ) → es ≡ map entry_of (table_level t r) → i < length es → Hearable (get_or es i no_entry)

@@ -1,7 +1,7 @@
 -- Paths without their last site, and their words.
+use Rattle.std.specs.Prelude.{IsOk}
 use Rattle.std.proofs.Common.{◌≡◌, ℕ, suc, ◌-◌, ◌^◌, ◌<◌, ◌≤◌, true, not, eqb, ltb, leb, List, [], ◌∷◌, length, get_or, take, Ok, Err, Result, sym, refl, ap, ◌∙◌, subst, arith}
 use Rattle.std.proofs.lemmas.List.{get_or-take, length-take-le}
-use Rattle.std.specs.Result.{result_unwrap_or}
 use Rattle.std.proofs.lemmas.Bool.{and_parts, and_from, le-leb, both_ways}
 use Rattle.sites.specs.declared.refusal.Refusal.{Refusal}
 use Rattle.sites.specs.Lists.{front, final}
@@ -74,12 +74,12 @@ word_small p c =
     omega arith
 
 -- the first sites of a path but its last one, made a path
-front_taken : (p ss : List ℕ) (m : ℕ) → ss ≡ p → m ≡ length ss - 1 → take m ss ≡ front p
+pub front_taken : (p ss : List ℕ) (m : ℕ) → ss ≡ p → m ≡ length ss - 1 → take m ss ≡ front p
 front_taken p ss m is at =
     let e : m ≡ length p - 1 = at ∙ ap (λ (t : List ℕ). length t - 1) is in
     ap (take m) is ∙ ap (λ k. take k p) e ∙ front_take p
 
-pub front_or : (p : Path) (ss : List ℕ) (m : ℕ) (r : Result Path Refusal) (x : Path) → ss ≡ sites_of p → m ≡ length ss - 1 → MakesPath (take m ss) r → x ≡ result_unwrap_or r p → sites_of x ≡ front (sites_of p)
-front_or p ss m (Ok q) x is at made e = ap sites_of e ∙ made.1 ∙ front_taken (sites_of p) ss m is at
-front_or p ss m (Err d) x is at made e =
+pub front_made : (p : Path) (ss : List ℕ) (m : ℕ) (r : Result Path Refusal) → ss ≡ sites_of p → m ≡ length ss - 1 → MakesPath (take m ss) r → IsOk r
+front_made p ss m (Ok q) is at made = refl
+front_made p ss m (Err d) is at made =
     absurd (both_ways (path? (front (sites_of p))) (sym (ap path? (front_taken (sites_of p) ss m is at)) ∙ made.0) (path_front (sites_of p) p.lawful))

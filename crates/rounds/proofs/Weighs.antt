@@ -1,7 +1,6 @@
 -- Weighing by what a notebook tells.
-use Rattle.std.proofs.Common.{◌≡◌, ℕ, zero, suc, ◌-◌, ◌<◌, Bool, true, false, cond, MatchBool, List, [], ◌∷◌, map, length, get_or, take, drop, Some, None, sym, refl, ap, ◌∙◌, subst, arith}
-use Rattle.std.specs.List.{slice_get, AllByRecursion, AllWithin, HoldsAt}
-use Rattle.std.proofs.lemmas.List.{take_all}
+use Rattle.std.proofs.Common.{◌≡◌, ℕ, zero, suc, ◌<◌, Bool, true, false, cond, MatchBool, List, [], ◌∷◌, map, length, get_or, sym, refl, ap, ◌∙◌, subst, arith}
+use Rattle.std.specs.List.{AllByRecursion, AllWithin, HoldsAt}
 use Rattle.sites.specs.Sets.{in_set}
 use Rattle.sites.specs.Lists.{front}
 use Rattle.sites.specs.Keepers.{keepers}
@@ -48,26 +47,17 @@ module _ (L : ℕ → Type 0) (B : ℕ → Bool) (b : Bool) where
 
 -- ---- a fan, by its first word and the others
 
-rest_is : (x : ℕ) (xs : List ℕ) → take (length (x ∷ xs) - 1) xs ≡ xs
-rest_is x xs = take_all (length (x ∷ xs) - 1) xs (omega arith)
-
-pub rest_lawful : (L : ℕ → Type 0) (w : ℕ) (fan : List ℕ) → Some w ≡ slice_get fan 0 → AllByRecursion L fan → AllByRecursion L (take (length fan - 1) (drop 1 fan))
-rest_lawful L w [] e a = absurd (let z : ◌≡◌ {A = ℕ} 0 1 = cc in omega arith)
-rest_lawful L w (x ∷ xs) e a = subst (AllByRecursion L) (sym (rest_is x xs)) a.1
-
-pub agreed_by : (L : ℕ → Type 0) (B : ℕ → Bool) (own bit r : Bool) (w : ℕ) (fan : List ℕ) → Some w ≡ slice_get fan 0 → AllByRecursion L fan → (L w → bit ≡ B w) →
-    r ≡ all_are bit (map B (take (length fan - 1) (drop 1 fan))) → cond r bit own ≡ agreed own (map B fan)
+pub agreed_by : (L : ℕ → Type 0) (B : ℕ → Bool) (own bit r : Bool) (w : ℕ) (ws fan : List ℕ) → fan ≡ w ∷ ws → AllByRecursion L fan → (L w → bit ≡ B w) →
+    r ≡ all_are bit (map B ws) → cond r bit own ≡ agreed own (map B fan)
 unfolding agreed
-agreed_by L B own bit r w [] e a told is = absurd (let z : ◌≡◌ {A = ℕ} 0 1 = cc in omega arith)
-agreed_by L B own bit r w (x ∷ xs) e a told is =
-    let same : x ≡ w = cc in
-    let first : bit ≡ B x = told (subst L same a.0) ∙ sym (ap B same) in
-    ap (λ t. cond t bit own) (is ∙ ap (λ t. all_are bit (map B t)) (rest_is x xs)) ∙ ap (λ y. cond (all_are y (map B xs)) y own) first
+agreed_by L B own bit r w ws fan is a told e =
+    let first : bit ≡ B w = told (subst (AllByRecursion L) is a).0 in
+    ap (λ t. cond t bit own) e ∙ ap (λ y. cond (all_are y (map B ws)) y own) first ∙ sym (ap (λ (x : List ℕ). agreed own (map B x)) is)
 
-pub agreed_none : (B : ℕ → Bool) (own : Bool) (fan : List ℕ) → None ≡ slice_get fan 0 → own ≡ agreed own (map B fan)
+pub agreed_none : (B : ℕ → Bool) (own : Bool) (fan : List ℕ) → length fan ≡ 0 → own ≡ agreed own (map B fan)
 unfolding agreed
 agreed_none B own [] e = refl
-agreed_none B own (x ∷ xs) e = absurd (let z : ◌≡◌ {A = ℕ} 0 1 = cc in omega arith)
+agreed_none B own (x ∷ xs) e = absurd (omega arith)
 
 -- ---- the whole
 

@@ -1,48 +1,30 @@
 -- The flood word of a path, written and read.
-use Rattle.std.proofs.Common.{◌≡◌, ℕ, ◌-◌, ◌^◌, ◌<◌, Bool, true, false, cond, eqb, leb, List, length, Some, None, Option, Ok, Err, Result, MatchResult, sym, refl, ap, ◌∙◌, arith}
+use Rattle.std.proofs.Common.{◌≡◌, ℕ, Bool, true, false, cond, eqb, leb, List, Some, None, Option, sym, refl, ap, ◌∙◌, arith}
 use Rattle.std.specs.Option.{option_map}
-use Rattle.std.proofs.lemmas.Bool.{and_parts, and_from, le-leb, leb-true, both_ways}
+use Rattle.std.proofs.lemmas.Bool.{and_parts, leb-true}
 use Rattle.sites.specs.Lists.{front}
 use Rattle.words.specs.declared.kind.Kind.{Kind}
 use Rattle.words.specs.declared.kind.Kind.TheVariants.{Flood, Route, Fan}
 use Rattle.words.specs.Kinds.{suits, kind_named}
 use Rattle.words.specs.Layout.{kind_field, path_field}
-use Rattle.words.specs.Paths.{path?}
-use Rattle.words.specs.Words.{Meaning, lawful?, word_of, fields_as, meaning_as, meaning, meaning_of, MakesWord}
-use Rattle.words.specs.declared.path.PathWord.{PathWord}
-use Rattle.sites.specs.declared.refusal.Refusal.{Refusal}
+use Rattle.words.specs.Words.{Meaning, word_of, fields_as, meaning_as, meaning}
 use Rattle.theory.specs.Network.{Network}
 use Rattle.theory.specs.Flooding.{expected_up_to}
 use Rattle.notebooks.specs.Floods.{flood_word, flood_in, flood_of, flood_of_kind}
-use Rattle.notebooks.specs.Laws.{Carried}
 use Rattle.notebooks.specs.Notebooks.{listed, place, bit_at, noted}
 use Rattle.tables.specs.Entries.{path_word}
 use Rattle.tables.specs.Tables.{place_in}
 use Rattle.rounds.specs.Recalling.{asked}
-use Rattle.rounds.proofs.Paths.{front_carried, word_small}
 
-abbrev flood : List ℕ → Meaning
+abbrev pub flood : List ℕ → Meaning
 flood p = record { kind = Flood; sites = p; tail = 0 }
 
 -- ---- writing
 
-module _ (q p : List ℕ) (is : q ≡ front p) where
-  written : (w : ℕ) (m : Meaning) → m ≡ flood q → w ≡ word_of m → Carried (front p) → (w ≡ path_word (front p)) × (w < 2 ^ 32 - 1)
-  unfolding flood_word
-  written w m same value c =
-      let e : w ≡ path_word (front p) = value ∙ ap word_of same ∙ ap (λ x. word_of (flood x)) is in
-      (e, omega (arith, word_small (front p) c))
-
-  unwritten : lawful? (flood q) ≡ false → Carried (front p) → ⊥
-  unwritten unlawful c =
-      both_ways (lawful? (flood (front p))) (sym (ap (λ x. lawful? (flood x)) is) ∙ unlawful)
-      (and_from (path? (front p)) (suits Flood (length (front p)) 0) c.path (and_from (leb (length (front p)) 5) true (le-leb (length (front p)) 5 c.short) refl))
-
--- the word of a path without its last site, where it is made
-pub front_written : (q p : List ℕ) (is : q ≡ front p) → path? p ≡ true → (r : Result PathWord Refusal) (x : ℕ) → MakesWord (flood q) r → MatchResult r (λ f. x ≡ word_of (meaning_of f)) (λ _. x ≡ 0) →
-    (x ≡ path_word (front p)) × (x < 2 ^ 32 - 1)
-front_written q p is h (Ok f) x made e = written q p is x (meaning_of f) made.1 e (front_carried p h)
-front_written q p is h (Err d) x made e = absurd (unwritten q p is made.0 (front_carried p h))
+-- the word of a path without its last site
+pub front_written : (q p : List ℕ) (w : ℕ) (m : Meaning) → q ≡ front p → m ≡ flood q → w ≡ word_of m → w ≡ path_word (front p)
+unfolding flood_word
+front_written q p w m is same value = value ∙ ap word_of same ∙ ap (λ x. word_of (flood x)) is
 
 -- ---- reading
 

@@ -36,16 +36,15 @@ fn pass<A: Air>(air: &A, site: u8, wanted: u32, start: usize) -> usize
 
 // The bit of the first word of a lane, from a place on, that is the wanted one with bit 0 or 1; 1 where there is none.
 fn search<A: Air>(air: &A, site: u8, wanted: u32, start: usize) -> bool
-    requires { wanted < 2 ^ 32 - 1 }
     ensures { result ≡ first_of_two wanted (drop start (lane (A.lanes air.now) site)) }
 {
-    // two tests in a loop: a function that gives the bit of a word costs a quarter more instructions
+    // two tests in a loop: a function from a word to its bit was tried, and costs a quarter more instructions
     for k in start..air.count(site) {
         if let Some(word) = air.at(site, k) {
             if word == wanted {
                 return false;
             }
-            if word == wanted + 1 {
+            if word > wanted && word - wanted == 1 {
                 return true;
             }
         }
@@ -73,7 +72,7 @@ impl Ear {
     // before need not be read again where the words below are below this one too: so a lane whose words ascend, as
     // those of a sound site do, is read once in a round.
     fn hear<A: Air>(&mut self, air: &A, site: u8, wanted: u32) -> bool
-        requires { (wanted < 2 ^ 32 - 1) × (Below (lane (A.lanes air.now) site) self.old.place self.old.above) }
+        requires { Below (lane (A.lanes air.now) site) self.old.place self.old.above }
         ensures heard { result ≡ first_of_two wanted (lane (A.lanes air.now) site) }
         ensures tuned { Below (lane (A.lanes air.now) site) self.new.place self.new.above }
     {
@@ -86,7 +85,7 @@ impl Ear {
 }
 
 impl Ears {
-    // Ears that have not heard anything.
+    // Nothing is read yet.
     fn new() -> Ears
         ensures { (ls : Lanes) → Tuned ls result }
     {
@@ -97,7 +96,7 @@ impl Ears {
 
     // The flood word to note for a path.
     fn hear<A: Air>(&mut self, air: &A, path: ExpectedPath) -> u32
-        requires { (Tuned (A.lanes air.now) self.old) × ((path.last < 6) × ((path.front < 2 ^ 32 - 1) × (path.word < 2 ^ 32 - 1))) }
+        requires { (Tuned (A.lanes air.now) self.old) × ((path.last < 6) × (path.word < 2 ^ 32 - 1)) }
         ensures heard { result ≡ note_of (A.lanes air.now) path }
         ensures tuned { Tuned (A.lanes air.now) self.new }
     {

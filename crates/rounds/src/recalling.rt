@@ -16,15 +16,16 @@ pub(crate) fn front_of(path: &Path) -> Path
     ensures { sites_of result ≡ front (sites_of path.now) }
 {
     let sites = path.sites();
-    Path::new(&sites[..sites.len().saturating_sub(1)]).unwrap_or(*path)
+    Path::new(&sites[..sites.len().saturating_sub(1)]).unwrap()
 }
 
 // The flood word, with bit 0, of a path without its last site.
 pub(crate) fn front_word(path: &Path) -> u32
-    ensures value { result ≡ path_word (front (sites_of path.now)) }
-    ensures bound { result < 2 ^ 32 - 1 }
+    ensures { result ≡ path_word (front (sites_of path.now)) }
 {
-    PathWord::new(Kind::Flood, front_of(path), 0).map_or(0, |flood| flood.write())
+    PathWord::new(Kind::Flood, front_of(path), 0)
+        .unwrap()
+        .write()
 }
 
 // The path of a lawful flood word with bit 0; refused with 5 for any other word.

@@ -7,39 +7,40 @@ ghost use Rattle.rounds.specs.Speaking.{Gives, owed_of, put_all_reply, put_all_n
 use crate::notebook::Notebook;
 use airs::Air;
 use sites::Refusal;
+use std::ops::Range;
 use tables::PathTable;
 
-// Puts the words for the places from start up to end in a lane that has room for all of them.
-fn put_each<A: Air, F: Fn(usize) -> u32>(air: &mut A, site: u8, start: usize, end: usize, word: F)
-    requires room { (site < 6) × (end - start ≤ A.size - count_of (A.lanes air.old) site) }
-    requires callable { (k : ℕ) → start ≤ k → k < end → F.pre word k }
-    ensures { (ws : List ℕ) → length ws ≡ end - start → Gives (F.post word) start ws → A.lanes air.new ≡ added (A.lanes air.old) site ws }
+// Puts the words for some places in a lane that has room for all of them.
+fn put_each<A: Air, F: Fn(usize) -> u32>(air: &mut A, site: u8, places: Range<usize>, word: F)
+    requires room { (site < 6) × (places.end - places.start ≤ A.size - count_of (A.lanes air.old) site) }
+    requires callable { (k : ℕ) → places.start ≤ k → k < places.end → F.pre word k }
+    ensures { (ws : List ℕ) → length ws ≡ places.end - places.start → Gives (F.post word) places.start ws → A.lanes air.new ≡ added (A.lanes air.old) site ws }
 {
-    for place in start..end {
+    // by its ends: a loop over the range as it is tells a proof its numbers only by the steps of an iterator
+    for place in places.start..places.end {
         let _ = air.put(site, word(place));
     }
 }
 
-// Puts the words for the places from start up to end or, where the lane has no room for all of them, none.
+// Puts the words for some places or, where the lane has no room for all of them, none.
 fn put_all<A: Air, F: Fn(usize) -> u32>(
     air: &mut A,
     site: u8,
-    start: usize,
-    end: usize,
+    places: Range<usize>,
     word: F,
 ) -> Result<usize, Refusal>
-    requires { (k : ℕ) → start ≤ k → k < end → F.pre word k }
-    ensures answer { (ws : List ℕ) → length ws ≡ end - start → result ≡ put_all_reply A.size (A.lanes air.old) site ws }
-    ensures after { (ws : List ℕ) → length ws ≡ end - start → Gives (F.post word) start ws → A.lanes air.new ≡ put_all_next A.size (A.lanes air.old) site ws }
+    requires { (k : ℕ) → places.start ≤ k → k < places.end → F.pre word k }
+    ensures answer { (ws : List ℕ) → length ws ≡ places.end - places.start → result ≡ put_all_reply A.size (A.lanes air.old) site ws }
+    ensures after { (ws : List ℕ) → length ws ≡ places.end - places.start → Gives (F.post word) places.start ws → A.lanes air.new ≡ put_all_next A.size (A.lanes air.old) site ws }
 {
     if site >= 6 {
         return Err(Refusal::NoSite);
     }
-    let count = end.saturating_sub(start);
+    let count = places.end.saturating_sub(places.start);
     if count > air.lane_size().saturating_sub(air.count(site)) {
         return Err(Refusal::LaneFull);
     }
-    put_each(air, site, start, end, word);
+    put_each(air, site, places, word);
     Ok(count)
 }
 
@@ -72,14 +73,13 @@ fn put_owed<A: Air, F: Fn(usize) -> u32>(
     ensures after { (ws : List ℕ) → length ws ≡ length (table_level table.now (round - 1)) → Gives (F.post word) (first_place (table_network table.now) table.now.site (round - 1)) ws → A.lanes air.new ≡ put_all_next A.size (A.lanes air.old) table.now.site (owed_of round bit ws) }
 {
     if round == 1 {
-        return put_all(air, table.site(), 0, 1, |_| opening_word(bit));
+        return put_all(air, table.site(), 0..1, |_| opening_word(bit));
     }
     let k = round.saturating_sub(1);
     put_all(
         air,
         table.site(),
-        first_of_round(table, k),
-        table.count(k),
+        first_of_round(table, k)..table.count(k),
         word,
     )
 }

@@ -45,6 +45,7 @@ impl<'a> Heard<'a> {
     fn bit_along(&self, word: u32) -> bool
         ensures { is_some (meaning word) ≡ true → result ≡ tells self.now (front (path_field word)) }
     {
+        // never so in a fan, whose words are lawful; but what `all` calls for each word may not ask for that
         let Ok(path) = PathWord::read(word) else {
             return true;
         };
@@ -64,11 +65,11 @@ impl<'a> Heard<'a> {
         requires { AllByRecursion (λ w. is_some (meaning w) ≡ true) fan.now }
         ensures { result ≡ agreed_of own (map (λ w. tells self.now (front (path_field w))) fan.now) }
     {
-        let Some(first) = fan.first() else {
+        let Some((first, others)) = fan.split_first() else {
             return own;
         };
         let bit = self.bit_along(*first);
-        if self.all_bring(&fan[1..], bit) {
+        if self.all_bring(others, bit) {
             bit
         } else {
             own
@@ -115,6 +116,7 @@ impl<'a, P: Routing> Phase<'a, P> {
     fn zeros(&self) -> SiteMask
         ensures { result.bits ≡ zeros_of (P.network self.now.plan.now) (tells self.now.heard) self.now.set.bits self.now.own self.now.heard.table.now.site }
     {
+        // a loop here and in a wiring's masks: one function for both would be public and ask that a closure may be called
         let mut bits = 0;
         for from in 0..self.plan.site_count() {
             if !self.bit_from(from) {

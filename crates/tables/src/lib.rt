@@ -2,9 +2,9 @@
 
 mod draft;
 mod expected_path;
-mod home;
 mod laws;
 mod routing;
+mod site_wiring;
 mod step;
 mod table;
 mod tables;

@@ -8,7 +8,7 @@ ghost use Rattle.tables.specs.Tables.{network_of, table_paths, place_in};
 
 use crate::draft::Draft;
 use crate::expected_path::ExpectedPath;
-use crate::home::Home;
+use crate::site_wiring::SiteWiring;
 use crate::table::PathTable;
 use crate::wiring::Wiring;
 use words::{Kind, Path, PathWord};
@@ -19,7 +19,7 @@ fn draft_of(wiring: &Wiring, site: u8) -> Draft
 {
     let mut draft = Draft::new();
     if site < wiring.n {
-        draft.fill(&Home { wiring, site });
+        draft.fill(&SiteWiring { wiring, site });
     }
     draft
 }

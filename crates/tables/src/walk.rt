@@ -4,13 +4,13 @@ ghost use Rattle.tables.specs.Drafts.{drafted, Lists};
 
 use crate::draft::Draft;
 use crate::expected_path::ExpectedPath;
-use crate::home::Home;
+use crate::site_wiring::SiteWiring;
 use crate::step::Step;
 use crate::wiring::Wiring;
 use arrayvec::ArrayVec;
 use sites::SiteMask;
 
-impl<'a> Home<'a> {
+impl<'a> SiteWiring<'a> {
     // The path of no site, which may go on to any site below n but this one.
     fn root(&self) -> Step
         ensures { result ≡ root_step self.now.wiring.now.n self.now.site }
@@ -73,14 +73,14 @@ impl Draft {
         }
     }
 
-    // Writes each path to a neighbour of the home that goes on from a path by so many more sites.
-    fn walk(&mut self, home: &Home, step: Step, left: u8)
-        requires { (length (drafted self.old) + length (walks home.now.wiring.now.near home.now.site step left) ≤ 325) × (step.path.word + left * 2 ^ 25 + 8 * step.unit < 2 ^ 32) }
-        ensures paths { drafted self.new ≡ drafted self.old ++ walks home.now.wiring.now.near home.now.site step left }
+    // Writes each path to a neighbour of the site that goes on from a path by so many more sites.
+    fn walk(&mut self, here: &SiteWiring, step: Step, left: u8)
+        requires { (length (drafted self.old) + length (walks here.now.wiring.now.near here.now.site step left) ≤ 325) × (step.path.word + left * 2 ^ 25 + 8 * step.unit < 2 ^ 32) }
+        ensures paths { drafted self.new ≡ drafted self.old ++ walks here.now.wiring.now.near here.now.site step left }
         ensures ends { self.new.ends ≡ self.old.ends }
     {
         if left == 0 {
-            if step.near.contains(home.site) {
+            if step.near.contains(here.site) {
                 self.paths.push(step.path);
             }
             return;
@@ -88,28 +88,28 @@ impl Draft {
         // a test in the loop: a filtered range is no plainer
         for s in 0..6 {
             if step.can(s) {
-                self.walk(home, step.on(home.wiring, s), left - 1);
+                self.walk(here, step.on(here.wiring, s), left - 1);
             }
         }
     }
 
     // Writes the paths of k sites.
-    fn level(&mut self, home: &Home, k: u8)
-        requires { (k < 6) × (length (drafted self.old) + length (walks home.now.wiring.now.near home.now.site (root_step home.now.wiring.now.n home.now.site) k) ≤ 325) }
-        ensures paths { drafted self.new ≡ drafted self.old ++ walks home.now.wiring.now.near home.now.site (root_step home.now.wiring.now.n home.now.site) k }
+    fn level(&mut self, here: &SiteWiring, k: u8)
+        requires { (k < 6) × (length (drafted self.old) + length (walks here.now.wiring.now.near here.now.site (root_step here.now.wiring.now.n here.now.site) k) ≤ 325) }
+        ensures paths { drafted self.new ≡ drafted self.old ++ walks here.now.wiring.now.near here.now.site (root_step here.now.wiring.now.n here.now.site) k }
         ensures ends { self.new.ends ≡ slice_set self.old.ends k (length (drafted self.new)) }
     {
-        self.walk(home, home.root(), k);
+        self.walk(here, here.root(), k);
         self.ends[k as usize] = self.paths.len();
     }
 
     // Writes the paths of one to five sites.
-    pub(crate) fn fill(&mut self, home: &Home)
-        requires { Lists home.now.wiring.now.n home.now.wiring.now.near home.now.site 0 self.old }
-        ensures { Lists home.now.wiring.now.n home.now.wiring.now.near home.now.site 5 self.new }
+    pub(crate) fn fill(&mut self, here: &SiteWiring)
+        requires { Lists here.now.wiring.now.n here.now.wiring.now.near here.now.site 0 self.old }
+        ensures { Lists here.now.wiring.now.n here.now.wiring.now.near here.now.site 5 self.new }
     {
         for k in 1..6 {
-            self.level(home, k);
+            self.level(here, k);
         }
     }
 }

@@ -14,6 +14,6 @@ returns g c =
     let p = sites_of c.args.path.now in
     let ls = g.A.Air.lanes c.args.air.now in
     c.search.ensures
-    ∙ ap (λ w. first_of_two w (lane ls c.last_site.result)) c.front_word.ensures.value
+    ∙ ap (λ w. first_of_two w (lane ls c.last_site.result)) c.front_word.ensures
     ∙ ap (λ s. first_of_two (path_word (front p)) (lane ls s)) c.last_site.ensures
     ∙ first_word (front p) (front_carried p c.args.path.now.lawful) (lane ls (final p))

@@ -1,11 +1,10 @@
-use Rattle.std.proofs.Common.{rules}
-use Rattle.std.proofs.lemmas.Result.{MatchResult-weaker}
-use Rattle.words.specs.Words.{sites_of}
-use Rattle.rounds.proofs.Words.{front_written}
+use Rattle.std.proofs.Common.{Ok, subst}
+use Rattle.words.specs.Words.{MakesWord, meaning_of, sites_of}
+use Rattle.rounds.proofs.Words.{flood, front_written}
 use Rattle.rounds.proofs.recalling.front_word.Goals as goal
 
 pub returns : goal.returns
 returns c =
-    let p = c.args.path.now in
-    let h = front_written (sites_of c.front_of.result) (sites_of p) c.front_of.ensures p.lawful c.new.result c.map_or.result c.new.ensures (MatchResult-weaker c.new.result c.map_or.ensures (λ f k. search rules) (λ d k. k)) in
-    record { value = h.0; bound = h.1 }
+    let q = sites_of c.front_of.result in
+    let made : MakesWord (flood q) (Ok c.unwrap.result) = subst (MakesWord (flood q)) c.unwrap.ensures c.new.ensures in
+    front_written q (sites_of c.args.path.now) c.write.result (meaning_of c.unwrap.result) c.front_of.ensures made.1 c.write.ensures.value

@@ -7,7 +7,7 @@ use Rattle.rounds.proofs.speaking.put_each.Goals as goal
 pub loop-place-init : goal.loop-place-init
 loop-place-init g c = λ ws long given.
     let ls : Lanes = g.A.Air.lanes c.args.air.now in
-    let z : c.args.start - c.args.start ≡ 0 = omega arith in
+    let z : c.args.places.start - c.args.places.start ≡ 0 = omega arith in
     sym (ap (λ (j : ℕ). added ls c.args.site (take j ws)) z ∙ added_none ls c.args.site)
 
 pub loop-place-preserved : goal.loop-place-preserved
@@ -16,11 +16,11 @@ loop-place-preserved g c = λ ws long given.
     let size : ℕ = g.A.Air.size in
     let s : ℕ = c.args.site in
     let i : ℕ = c.loop-place.place in
-    let k : ℕ = i - c.args.start in
-    let from : c.args.start ≤ i = omega (arith, c.loop-place.auto.place) in
-    let here : i ≡ c.args.start + k = omega arith in
+    let k : ℕ = i - c.args.places.start in
+    let from : c.args.places.start ≤ i = omega (arith, c.loop-place.auto.place) in
+    let here : i ≡ c.args.places.start + k = omega arith in
     let word : c.word.result ≡ get_or ws k 0 = given k c.word.result (omega arith) (subst (λ (n : ℕ). g.F.Fn.post c.args.word (n, tt) c.word.result) here c.word.ensures) in
-    let more : k + 1 ≡ (i + 1) - c.args.start = omega arith in
+    let more : k + 1 ≡ (i + 1) - c.args.places.start = omega arith in
     c.put.ensures.after
     ∙ ap (λ (b : Lanes). put_next size b s c.word.result) (c.loop-place.invariant ws long given)
     ∙ ap (put_next size (added ls s (take k ws)) s) word
@@ -30,5 +30,5 @@ loop-place-preserved g c = λ ws long given.
 pub returns : goal.returns
 returns g c = λ ws long given.
     let ls : Lanes = g.A.Air.lanes c.args.air.now in
-    let k : ℕ = c.loop-place.place - c.args.start in
+    let k : ℕ = c.loop-place.place - c.args.places.start in
     c.loop-place.invariant ws long given ∙ ap (added ls c.args.site) (take_all k ws (omega arith))

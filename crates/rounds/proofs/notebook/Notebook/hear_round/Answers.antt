@@ -32,7 +32,7 @@ hear-requires g c =
     let start : ℕ = c.first_of_round-start.result in
     let is = level_slice t c.args.round es start c.up_to.ensures c.first_of_round-start.ensures.value in
     let h = level_hearable t c.args.round (take (length es - start) (drop start es)) c.loop-i.i is c.loop-i-test.true in
-    (c.loop-i.invariant.0, (h.low_last, (h.low_front, h.low_word)))
+    (c.loop-i.invariant.0, (h.low_last, h.low_word))
 
 pub loop-i-preserved : goal.loop-i-preserved
 loop-i-preserved g c =

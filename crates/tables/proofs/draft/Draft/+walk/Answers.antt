@@ -25,11 +25,11 @@ on-requires t c =
 
 pub walk-requires : goal.walk-requires
 walk-requires t c =
-    let near : List ℕ = c.args.home.now.wiring.now.near in
+    let near : List ℕ = c.args.here.now.wiring.now.near in
     let st : Step = c.args.step in
     let i : ℕ = c.loop-s.s in
-    let more = walks_more near c.args.home.now.site st c.args.left (omega arith) in
-    let f : ℕ → List ExpectedPath = λ s. walks near c.args.home.now.site (gone_on near st s) (c.args.left - 1) in
+    let more = walks_more near c.args.here.now.site st c.args.left (omega arith) in
+    let f : ℕ → List ExpectedPath = λ s. walks near c.args.here.now.site (gone_on near st s) (c.args.left - 1) in
     let h : can_go st i ≡ true = sym c.if-can.ensures in
     let le : length (drafted c.args.self.now ++ join_from (can_go st) f 0 6) ≤ 325 =
     omega (arith, length-append (drafted c.args.self.now) (join_from (can_go st) f 0 6), ap length more) in
@@ -38,22 +38,22 @@ walk-requires t c =
     let same : c.on.result ≡ gone_on near st i = c.on.ensures in (
       omega arith,
       (
-        omega (arith, ap (λ (x : Step). length (walks near c.args.home.now.site x (c.args.left - 1))) same),
+        omega (arith, ap (λ (x : Step). length (walks near c.args.here.now.site x (c.args.left - 1))) same),
         omega (arith, ap (λ (x : Step). x.path.word) same, ap (λ (x : Step). x.unit) same, small_more st.path.word st.unit i c.args.left (omega arith) (omega arith) (omega arith)),
       ),
     )
 
 pub loop-s-preserved : goal.loop-s-preserved
 loop-s-preserved t c =
-    let near : List ℕ = c.args.home.now.wiring.now.near in
+    let near : List ℕ = c.args.here.now.wiring.now.near in
     let st : Step = c.args.step in
     let i : ℕ = c.loop-s.s in
-    let f : ℕ → List ExpectedPath = λ s. walks near c.args.home.now.site (gone_on near st s) (c.args.left - 1) in
+    let f : ℕ → List ExpectedPath = λ s. walks near c.args.here.now.site (gone_on near st s) (c.args.left - 1) in
     let rest : List ExpectedPath = join_from (can_go st) f (i + 1) (6 - (i + 1)) in
     elim c.if-can.branch [
       | then-can w ↦
           let came : drafted c.if-can.self ≡ drafted c.loop-s.self ++ f i =
-          ap drafted w.self-is ∙ w.walk.ensures.paths ∙ ap (λ (x : Step). drafted c.loop-s.self ++ walks near c.args.home.now.site x (c.args.left - 1)) w.on.ensures in (
+          ap drafted w.self-is ∙ w.walk.ensures.paths ∙ ap (λ (x : Step). drafted c.loop-s.self ++ walks near c.args.here.now.site x (c.args.left - 1)) w.on.ensures in (
             ap (λ (x : List ExpectedPath). x ++ rest) came ∙ join_hit (can_go st) f (drafted c.loop-s.self) i 6 (omega arith) (sym w.if-can.ensures) ∙ c.loop-s.invariant.0,
             ap (λ (x : Draft). x.ends) w.self-is ∙ w.walk.ensures.ends ∙ c.loop-s.invariant.1,
           )
@@ -65,12 +65,12 @@ loop-s-preserved t c =
 
 pub returns : goal.returns
 returns t c =
-    let near : List ℕ = c.args.home.now.wiring.now.near in
+    let near : List ℕ = c.args.here.now.wiring.now.near in
     let st : Step = c.args.step in
-    let f : ℕ → List ExpectedPath = λ s. walks near c.args.home.now.site (gone_on near st s) (c.args.left - 1) in
+    let f : ℕ → List ExpectedPath = λ s. walks near c.args.here.now.site (gone_on near st s) (c.args.left - 1) in
     record {
       paths =
           sym (join_end (can_go st) f (drafted c.loop-s.self) c.loop-s.s 6 (omega arith)) ∙ c.loop-s.invariant.0
-          ∙ ap (λ x. drafted c.args.self.now ++ x) (sym (walks_more near c.args.home.now.site st c.args.left (omega arith)));
+          ∙ ap (λ x. drafted c.args.self.now ++ x) (sym (walks_more near c.args.here.now.site st c.args.left (omega arith)));
       ends = c.loop-s.invariant.1;
     }

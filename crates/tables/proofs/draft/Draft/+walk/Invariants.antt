@@ -9,6 +9,6 @@ decreases-walk l = l.left
 
 abbrev pub invariant-loop-s : goal.invariant-loop-s
 invariant-loop-s l =
-    (drafted l.self ++ join_from (can_go l.step) (λ s. walks l.home.wiring.now.near l.home.site (gone_on l.home.wiring.now.near l.step s) (l.left - 1)) l.s (6 - l.s)
-    ≡ drafted l.initial.self ++ join_from (can_go l.step) (λ s. walks l.home.wiring.now.near l.home.site (gone_on l.home.wiring.now.near l.step s) (l.left - 1)) 0 6)
+    (drafted l.self ++ join_from (can_go l.step) (λ s. walks l.here.wiring.now.near l.here.site (gone_on l.here.wiring.now.near l.step s) (l.left - 1)) l.s (6 - l.s)
+    ≡ drafted l.initial.self ++ join_from (can_go l.step) (λ s. walks l.here.wiring.now.near l.here.site (gone_on l.here.wiring.now.near l.step s) (l.left - 1)) 0 6)
     × (l.self.ends ≡ l.initial.self.ends)

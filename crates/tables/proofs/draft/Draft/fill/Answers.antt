@@ -10,18 +10,18 @@ use Rattle.tables.proofs.draft.Draft.fill.Goals as goal
 
 pub level-requires : goal.level-requires
 level-requires c =
-    let w = c.args.home.now.wiring.now in
-    (omega arith, level_room w.n w.near c.args.home.now.site w.few c.args.home.now.inside c.loop-k.k (omega arith) (omega arith) (drafted c.loop-k.self) c.loop-k.invariant.listed)
+    let w = c.args.here.now.wiring.now in
+    (omega arith, level_room w.n w.near c.args.here.now.site w.few c.args.here.now.inside c.loop-k.k (omega arith) (omega arith) (drafted c.loop-k.self) c.loop-k.invariant.listed)
 
 pub loop-k-preserved : goal.loop-k-preserved
 loop-k-preserved c =
-    let w = c.args.home.now.wiring.now in
+    let w = c.args.here.now.wiring.now in
     let N : Network = wired w.n w.near in
-    let v : ℕ = c.args.home.now.site in
+    let v : ℕ = c.args.here.now.site in
     let k : ℕ = c.loop-k.k in
     let pos : 0 < k = omega arith in
     let now : drafted c.level.new.self ≡ map entry_of (expected_up_to N v k) =
-    c.level.ensures.paths ∙ level_more w.n w.near v w.few c.args.home.now.inside k pos (omega arith) (drafted c.loop-k.self) c.loop-k.invariant.listed in
+    c.level.ensures.paths ∙ level_more w.n w.near v w.few c.args.here.now.inside k pos (omega arith) (drafted c.loop-k.self) c.loop-k.invariant.listed in
     let lt : k < length c.loop-k.self.ends = omega (arith, c.loop-k.self.six) in
     let back : k ≡ (k + 1) - 1 = omega arith in
     let ends : (j : ℕ) → j < k + 1 → get_or c.level.new.self.ends j 0 ≡ length (expected_up_to N v j) =
@@ -41,8 +41,8 @@ loop-k-preserved c =
 pub returns : goal.returns
 returns c =
     let e : c.loop-k.k ≡ 6 = omega arith in
-    let w = c.args.home.now.wiring.now in
+    let w = c.args.here.now.wiring.now in
     record {
-      listed = c.loop-k.invariant.listed ∙ ap (λ x. map entry_of (expected_up_to (wired w.n w.near) c.args.home.now.site (x - 1))) e;
+      listed = c.loop-k.invariant.listed ∙ ap (λ x. map entry_of (expected_up_to (wired w.n w.near) c.args.here.now.site (x - 1))) e;
       counted = λ j h. c.loop-k.invariant.counted j (omega arith);
     }

@@ -1,6 +1,6 @@
 use Rattle.std.proofs.Common.{arith}
 use Rattle.std.proofs.lemmas.Nat.{one_shl, pow_below}
-use Rattle.tables.proofs.home.Home.root.Goals as goal
+use Rattle.tables.proofs.site_wiring.SiteWiring.root.Goals as goal
 
 pub overflow_sub-result-2 : goal.overflow_sub-result-2
 overflow_sub-result-2 c =
