@@ -25,12 +25,12 @@ impl AirCommand {
     pub(crate) fn read(line: Line<'_>) -> Result<Option<AirCommand>, Fault> {
         let command = match line.name {
             "eput" => {
-                let (site, word) = line.two("eput takes a site and a word")?;
+                let (site, word) = line.read("eput takes a site and a word")?;
                 AirCommand::Put { site, word }
             }
-            "ecount" => AirCommand::Count(line.one("ecount takes a site")?),
+            "ecount" => AirCommand::Count(line.read("ecount takes a site")?),
             "eat" => {
-                let (site, position) = line.two("eat takes a site and a position")?;
+                let (site, position) = line.read("eat takes a site and a position")?;
                 AirCommand::At { site, position }
             }
             "eclear" => {

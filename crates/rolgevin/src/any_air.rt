@@ -4,9 +4,10 @@ use crate::end_commands::{End, EndCommand};
 use crate::fault::Fault;
 use crate::floor_commands::FloorCommand;
 use crate::line::Argument;
-use airs::{Board, Strip};
+use airs::{Air, Board, Strip};
 use floors::Floor;
 use plans::Plan;
+use std::fmt;
 
 /// The two kinds of air.
 #[derive(Clone, Copy)]
@@ -25,7 +26,26 @@ impl Argument for AirKind {
     }
 }
 
-/// An air of one kind or the other.
+impl fmt::Display for AirKind {
+    fn fmt<W: fmt::Write>(&self, f: &mut fmt::Formatter<W>) -> fmt::Result {
+        match self {
+            AirKind::Board => write!(f, "board"),
+            AirKind::Strip => write!(f, "strip"),
+        }
+    }
+}
+
+impl AirKind {
+    /// How many words a lane of such an air has room for.
+    pub(crate) fn lane_words(self) -> usize {
+        match self {
+            AirKind::Board => Board::LANE_WORDS,
+            AirKind::Strip => Strip::LANE_WORDS,
+        }
+    }
+}
+
+/// An air of one kind or the other. `Air` has a constant, so no `dyn Air` can stand for both.
 #[derive(Drop)]
 pub(crate) enum AnyAir {
     Board(Board),
@@ -64,7 +84,7 @@ impl AnyAir {
     }
 }
 
-/// A floor over an air of one kind or the other.
+/// A floor over an air of one kind or the other: two types, since a floor is generic over its air.
 #[derive(Drop)]
 pub(crate) enum AnyFloor {
     Board(Floor<Board>),

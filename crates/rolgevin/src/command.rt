@@ -35,6 +35,7 @@ pub(crate) enum Command {
 
 impl Command {
     // The command that a line is.
+    // The five groups are read in turn: one `match` on all names would be no plainer, as each arm would name two enums.
     fn read(heap: Global, line: Line<'_>) -> Result<Command, Fault> {
         if let Some(command) = PathCommand::read(heap, line)? {
             return Ok(Command::Path(command));
@@ -56,8 +57,8 @@ impl Command {
                 line.none("reset takes no arguments")?;
                 Ok(Command::Reset)
             }
-            "air" => Ok(Command::NewFloor(line.one("air takes board or strip")?)),
-            "eair" => Ok(Command::NewAir(line.one("eair takes board or strip")?)),
+            "air" => Ok(Command::NewFloor(line.read("air takes board or strip")?)),
+            "eair" => Ok(Command::NewAir(line.read("eair takes board or strip")?)),
             _ => Err(Fault::NoCommand("no such command")),
         }
     }

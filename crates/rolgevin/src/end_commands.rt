@@ -192,7 +192,7 @@ impl EndCommand {
     pub(crate) fn read(line: Line<'_>) -> Result<Option<EndCommand>, Fault> {
         let command = match line.name {
             "begin" => {
-                let (site, bit) = line.two("begin takes a site and a bit")?;
+                let (site, bit) = line.read("begin takes a site and a bit")?;
                 EndCommand::Begin { site, bit }
             }
             "espeak" => {
@@ -212,7 +212,7 @@ impl EndCommand {
                 EndCommand::Book
             }
             "ebookset" => {
-                let (place, word) = line.two("ebookset takes a place and a word")?;
+                let (place, word) = line.read("ebookset takes a place and a word")?;
                 EndCommand::Set { place, word }
             }
             _ => return Ok(None),

@@ -28,23 +28,23 @@ pub(crate) enum FloorCommand {
 fn call(line: Line<'_>) -> Result<Option<Call>, Fault> {
     let call = match line.name {
         "transmit" => {
-            let (site, word) = line.two("transmit takes a site and a word")?;
+            let (site, word) = line.read("transmit takes a site and a word")?;
             Call::Transmit { site, word }
         }
         "recalled" => {
-            let (site, word) = line.two("recalled takes a site and a word")?;
+            let (site, word) = line.read("recalled takes a site and a word")?;
             Call::Recalled { site, word }
         }
         "speak" => {
-            let site = line.one("speak takes a site")?;
+            let site = line.read("speak takes a site")?;
             Call::Speak { site }
         }
         "held" => {
-            let site = line.one("held takes a site")?;
+            let site = line.read("held takes a site")?;
             Call::Held { site }
         }
         "decision" => {
-            let site = line.one("decision takes a site")?;
+            let site = line.read("decision takes a site")?;
             Call::Decision { site }
         }
         "turn" => {
@@ -108,14 +108,14 @@ impl FloorCommand {
     pub(crate) fn read(line: Line<'_>) -> Result<Option<FloorCommand>, Fault> {
         let command = match line.name {
             "open" => {
-                let (rogues, bits) = line.two("open takes a mask of rogues and a mask of bits")?;
+                let (rogues, bits) = line.read("open takes a mask of rogues and a mask of bits")?;
                 FloorCommand::Open { rogues, bits }
             }
             "lanes" => {
                 line.none("lanes takes no arguments")?;
                 FloorCommand::Lanes
             }
-            "notebook" => FloorCommand::Notebook(line.one("notebook takes a site")?),
+            "notebook" => FloorCommand::Notebook(line.read("notebook takes a site")?),
             "state" => {
                 line.none("state takes no arguments")?;
                 FloorCommand::State

@@ -11,8 +11,8 @@ pub(crate) trait Argument: Drop {
     fn read(token: &str) -> Option<Self>;
 }
 
-/// A tail, or a site whose number the answer does not repeat: decimal, and 255 for a larger number, since no kind, tail
-/// or site is as large.
+/// A kind, a tail, or a site whose number no answer repeats unless there is such a site: decimal, and 255 for a larger
+/// number, since no kind, tail or site is as large.
 impl Argument for u8 {
     fn read(token: &str) -> Option<u8> {
         let number = decimal(token.as_bytes())?;
@@ -54,7 +54,7 @@ impl Argument for bool {
     }
 }
 
-/// A site whose number the answer repeats as it was written.
+/// A site whose number the answer repeats, whether or not there is such a site: decimal.
 #[derive(Clone, Copy)]
 pub(crate) struct Site(u32);
 
@@ -79,27 +79,47 @@ impl Argument for Site {
     }
 }
 
+/// What a command takes as all its tokens.
+pub(crate) trait Arguments: Drop {
+    /// The values that the tokens write; nothing where they write no such values.
+    fn read_all(tokens: &[&str]) -> Option<Self>;
+}
+
+/// One value.
+impl<A: Argument> Arguments for A {
+    fn read_all(tokens: &[&str]) -> Option<A> {
+        let [token] = tokens else {
+            return None;
+        };
+        A::read(token)
+    }
+}
+
+/// Two values.
+impl<A: Argument, B: Argument> Arguments for (A, B) {
+    fn read_all(tokens: &[&str]) -> Option<(A, B)> {
+        let [first, second] = tokens else {
+            return None;
+        };
+        Some((A::read(first)?, B::read(second)?))
+    }
+}
+
+/// Three values.
+impl<A: Argument, B: Argument, C: Argument> Arguments for (A, B, C) {
+    fn read_all(tokens: &[&str]) -> Option<(A, B, C)> {
+        let [first, second, third] = tokens else {
+            return None;
+        };
+        Some((A::read(first)?, B::read(second)?, C::read(third)?))
+    }
+}
+
 /// A command's name, and the tokens behind it.
 #[derive(Clone, Copy)]
 pub(crate) struct Line<'a> {
     pub name: &'a str,
     pub tokens: &'a [&'a str],
-}
-
-// Two values, from as many tokens.
-fn two<A: Argument, B: Argument>(tokens: &[&str]) -> Option<(A, B)> {
-    let [first, second] = tokens else {
-        return None;
-    };
-    Some((A::read(first)?, B::read(second)?))
-}
-
-// Three values, from as many tokens.
-fn three<A: Argument, B: Argument, C: Argument>(tokens: &[&str]) -> Option<(A, B, C)> {
-    let [first, second, third] = tokens else {
-        return None;
-    };
-    Some((A::read(first)?, B::read(second)?, C::read(third)?))
 }
 
 // Each of the functions below is given what the command takes, for the answer where the tokens are not that.
@@ -112,31 +132,12 @@ impl Line<'_> {
         }
     }
 
-    /// The one argument.
-    pub(crate) fn one<A: Argument>(self, takes: &'static str) -> Result<A, Fault> {
-        let [token] = self.tokens else {
-            return Err(Fault::NoCommand(takes));
-        };
-        A::read(token).ok_or(Fault::NoCommand(takes))
+    /// One argument, two or three.
+    pub(crate) fn read<A: Arguments>(self, takes: &'static str) -> Result<A, Fault> {
+        A::read_all(self.tokens).ok_or(Fault::NoCommand(takes))
     }
 
-    /// The two arguments.
-    pub(crate) fn two<A: Argument, B: Argument>(
-        self,
-        takes: &'static str,
-    ) -> Result<(A, B), Fault> {
-        two(self.tokens).ok_or(Fault::NoCommand(takes))
-    }
-
-    /// The three arguments.
-    pub(crate) fn three<A: Argument, B: Argument, C: Argument>(
-        self,
-        takes: &'static str,
-    ) -> Result<(A, B, C), Fault> {
-        three(self.tokens).ok_or(Fault::NoCommand(takes))
-    }
-
-    /// All arguments, of one kind.
+    /// Any number of arguments, of one kind.
     pub(crate) fn all<A: Argument>(
         self,
         heap: Global,

@@ -1,28 +1,20 @@
 // Numbers as the console reads them.
 ghost use Rattle.std.specs.Prelude.{◌≡◌, ◌≤◌};
-ghost use Rattle.rolgevin.specs.Numbers.{digit_of, digit_behind, number_in, hex_digits};
-
-// The digit that a byte writes; 16 for any other byte.
-fn digit(byte: u8) -> u32
-    ensures value { result ≡ digit_of byte }
-    ensures bound { result ≤ 16 }
-{
-    char::from(byte).to_digit(16).unwrap_or(16)
-}
+ghost use Rattle.rolgevin.specs.Numbers.{digit_behind, number_in, hex_digits};
 
 // A number with one more digit behind it.
 fn behind(value: u32, base: u32, byte: u8) -> Option<u32>
+    requires { base ≤ 16 }
     ensures { result ≡ digit_behind base value byte }
 {
-    let digit = digit(byte);
-    if digit >= base {
-        return None;
-    }
+    let digit = char::from(byte).to_digit(16).filter(|digit| *digit < base)?;
     value.checked_mul(base)?.checked_add(digit)
 }
 
 // The number that some digits write, if they are digits of the base and it is below 2^32.
+// `u32::from_str_radix` would also take a number with `+` in front.
 fn number(bytes: &[u8], base: u32) -> Option<u32>
+    requires { base ≤ 16 }
     ensures { result ≡ number_in base bytes.now }
 {
     if bytes.is_empty() {

@@ -19,19 +19,24 @@ pub(crate) enum PathCommand {
 #[derive(Clone, Copy)]
 struct Described(PathWord);
 
-// The kind in plain words.
-fn name(kind: Kind) -> &'static str {
-    match kind {
-        Kind::Flood => "flood word",
-        Kind::Route => "route",
-        Kind::Fan => "fan path",
+// A kind in plain words.
+#[derive(Clone, Copy)]
+struct Named(Kind);
+
+impl fmt::Display for Named {
+    fn fmt<W: fmt::Write>(&self, f: &mut fmt::Formatter<W>) -> fmt::Result {
+        match self.0 {
+            Kind::Flood => write!(f, "flood word"),
+            Kind::Route => write!(f, "route"),
+            Kind::Fan => write!(f, "fan path"),
+        }
     }
 }
 
 impl fmt::Display for Described {
     fn fmt<W: fmt::Write>(&self, f: &mut fmt::Formatter<W>) -> fmt::Result {
         let word = self.0;
-        write!(f, "{}: the ", name(word.kind()))?;
+        write!(f, "{}: the ", Named(word.kind()))?;
         let path = word.path();
         if path.sites().is_empty() {
             write!(f, "empty path")?;

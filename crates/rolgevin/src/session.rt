@@ -53,13 +53,9 @@ impl Session {
     // A new floor in place of the one in hand.
     fn renew_floor(&mut self, kind: AirKind, reply: &mut String) -> Result<(), Fault> {
         self.floor = AnyFloor::new(kind);
-        let air = match kind {
-            AirKind::Board => "a board",
-            AirKind::Strip => "a strip",
-        };
         write!(
             reply,
-            "ok  # a new floor over {air}, open on the built-in plan"
+            "ok  # a new floor over a {kind}, open on the built-in plan"
         )?;
         Ok(())
     }
@@ -67,11 +63,8 @@ impl Session {
     // A fresh air in place of the one in hand.
     fn renew_air(&mut self, kind: AirKind, reply: &mut String) -> Result<(), Fault> {
         self.air = AnyAir::new(kind);
-        let air = match kind {
-            AirKind::Board => "board: lanes of 120 words",
-            AirKind::Strip => "strip: lanes of 160 words",
-        };
-        write!(reply, "ok  # a fresh {air}")?;
+        let count = kind.lane_words();
+        write!(reply, "ok  # a fresh {kind}: lanes of {count} words")?;
         Ok(())
     }
 }

@@ -161,11 +161,11 @@ impl SheetCommand {
                 "items takes words of up to eight hexadecimal digits",
             )?),
             "route" => {
-                let (set, from, to) = line.three("route takes a mask and two sites")?;
+                let (set, from, to) = line.read("route takes a mask and two sites")?;
                 SheetCommand::Route { set, from, to }
             }
             "fan" => {
-                let (set, at, among) = line.three("fan takes a mask, a site and a mask")?;
+                let (set, at, among) = line.read("fan takes a mask, a site and a mask")?;
                 SheetCommand::Fan { set, at, among }
             }
             _ => return Ok(None),
