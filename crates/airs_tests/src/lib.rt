@@ -90,24 +90,28 @@ mod tests {
         holds(rt, a, 5, 120)
     }
 
-    #[test]
-    fn board_limits(rt: HostRuntime) -> Result<(), Fail> {
-        let mut board = Board::new();
-        assert_eq!(rt; board.lane_size(), 120);
-        for count in [0, 1, 119, 120] {
-            one_lane(&rt, &mut board, 3, count)?;
+    // Tests an air's size of a lane, and one lane with each of some counts of words.
+    fn limits<A: Air>(
+        rt: &impl Abort,
+        air: &mut A,
+        size: usize,
+        counts: &[usize],
+    ) -> Result<(), Fail> {
+        assert_eq!(rt; air.lane_size(), size);
+        for count in counts {
+            one_lane(rt, air, 3, *count)?;
         }
         Ok(())
     }
 
     #[test]
+    fn board_limits(rt: HostRuntime) -> Result<(), Fail> {
+        limits(&rt, &mut Board::new(), 120, &[0, 1, 119, 120])
+    }
+
+    #[test]
     fn strip_limits(rt: HostRuntime) -> Result<(), Fail> {
-        let mut strip = Strip::new();
-        assert_eq!(rt; strip.lane_size(), 160);
-        for count in [0, 1, 119, 120, 159, 160] {
-            one_lane(&rt, &mut strip, 3, count)?;
-        }
-        Ok(())
+        limits(&rt, &mut Strip::new(), 160, &[0, 1, 119, 120, 159, 160])
     }
 
     #[test]

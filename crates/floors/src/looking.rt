@@ -41,9 +41,7 @@ impl<A: Air> Floor<A> {
     pub fn notebook(&self, site: u8) -> &[u32]
         ensures { result.now ≡ (if nat_lt site 6 then (record_at self.now.records site).notebook else []) }
     {
-        if site >= 6 {
-            return &[];
-        }
-        self.records.of(site).notebook.words()
+        let record = self.records.sites.get(site as usize);
+        record.map_or(&[], |record| record.notebook.words())
     }
 }

@@ -19,7 +19,8 @@ impl<A: Air> Floor<A> {
         (self.turns - 1) % self.rounds() + 1
     }
 
-    // 5 for a word that asks for no path: any notebook refuses it.
+    // 5 for a word that asks for no path: any notebook refuses it. A `match`, since of its refusals only this one is passed
+    // on; the test alone would be one more public function of `rounds`, for this one caller.
     #[tactic(auto, using(site_plans::proofs::Made::base_some))]
     fn asks(&self, word: u32) -> Result<(), Refusal>
         ensures { result ≡ asks_reply (flood_in word) }

@@ -8,32 +8,24 @@ use rounds::Notebook;
 use sites::SiteMask;
 use std::array;
 
-// Whether a site is below n and no rogue.
+// Whether a site is below n and no rogue. n and the rogues stand apart: the plan has the one and the floor the other, and a
+// pair of them would be made anew at each call.
 pub(crate) fn is_sound(n: u8, rogues: SiteMask, site: u8) -> bool
     ensures { result ≡ sound_of n rogues.bits site }
 {
     site < n && !rogues.contains(site)
 }
 
-impl SiteRecord {
-    // The record of a site that holds a bit and has heard nothing.
-    fn new(bit: bool) -> SiteRecord
-        ensures { seen result ≡ fresh bit }
-    {
-        SiteRecord {
-            bit,
-            spoken: false,
-            notebook: Notebook::new(),
-        }
-    }
-}
-
 impl Records {
-    // The record of a site when a floor is opened.
+    // The record of a site when a floor is opened: it has heard nothing.
     fn first(n: u8, rogues: SiteMask, bits: SiteMask, site: u8) -> SiteRecord
         ensures { seen result ≡ fresh (sound_of n rogues.bits site && in_set bits.bits site) }
     {
-        SiteRecord::new(is_sound(n, rogues, site) && bits.contains(site))
+        SiteRecord {
+            bit: is_sound(n, rogues, site) && bits.contains(site),
+            spoken: false,
+            notebook: Notebook::new(),
+        }
     }
 
     // The records when a floor is opened: the sound sites hold their bits.

@@ -29,7 +29,7 @@ impl SiteRecord {
 }
 
 impl Records {
-    // Lets a site speak.
+    // Lets a site speak. Apart from `Floor::speak`, so that what becomes of the six records is told without the refusals.
     fn speak<A: Air>(
         &mut self,
         air: &mut A,

@@ -40,6 +40,7 @@ impl SiteRecord {
         if !is_sound(n, rogues, site) {
             return;
         }
+        // Counted here, not by `Floor::rounds` and `phase`: the floor's records are lent out for writing meanwhile.
         let rounds = n as usize - 1;
         let round = turns % rounds + 1;
         let table = ground.table(site);

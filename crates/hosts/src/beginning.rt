@@ -2,7 +2,7 @@ ghost use Rattle.std.specs.Prelude.{◌≡◌};
 ghost use Rattle.hosts.specs.Answered.{answered as answered_by, left_by};
 ghost use Rattle.hosts.specs.Ends.{begin_on, begin_outcome, kept_over};
 
-use crate::end_words::{EndWords, Tag};
+use crate::end_words::{END_WORDS, EndWords, Tag};
 use crate::ends::named_bit;
 use crate::loading::loaded;
 use crate::refused::HostRefusal;
@@ -24,7 +24,7 @@ fn begin(sheet: &[u32], site: u32, bit: u32, state: &mut [u32]) -> Result<(), Ho
     ensures answer { answered_by result ≡ answered_by (begin_outcome sheet.now site bit state.old) }
     ensures state { state.new ≡ left_by (begin_outcome sheet.now site bit state.old) (λ w. kept_over w state.old) state.old }
 {
-    if state.len() < 7 {
+    if state.len() < END_WORDS {
         return Err(HostRefusal::TooShort);
     }
     begun(sheet, site, bit)?.write(state);

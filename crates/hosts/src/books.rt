@@ -3,15 +3,22 @@ ghost use Rattle.airs.specs.Boards.{board_lanes};
 ghost use Rattle.airs.specs.Lanes.{lane, count_of};
 ghost use Rattle.hosts.specs.Ends.{too_short, heard_lanes, counted_over};
 
+use crate::end_words::END_WORDS;
 use crate::refusing::named_site;
 use airs::{Air, Board};
 use rounds::Notebook;
+
+/// How many words a notebook has. Two ranges below name the number itself: with this name `search` meets its limits there.
+const BOOK_WORDS: usize = 325;
+
+/// How many words a host lends for a lane: their number and all that a board's lane can take.
+pub(crate) const LANE_ROOM: usize = 121;
 
 // Whether what a host lends for a state or a notebook is too short.
 pub(crate) fn is_short(state: &[u32], notebook: &[u32]) -> bool
     ensures { result ≡ too_short state.now notebook.now }
 {
-    state.len() < 7 || notebook.len() < 325
+    state.len() < END_WORDS || notebook.len() < BOOK_WORDS
 }
 
 // The notebook of a host's words.

@@ -6,7 +6,11 @@ pub(crate) enum Tag {
     Done = 3,
 }
 
-/// The seven words by which a host keeps a single end. The tag is a number here, since a host may write any.
+/// How many words a host keeps a single end by.
+pub(crate) const END_WORDS: usize = 7;
+
+/// The seven words by which a host keeps a single end. The tag is a number here, since a host may write any; it is only
+/// compared with the one that a call takes.
 #[derive(Clone, Copy)]
 pub(crate) struct EndWords {
     pub(crate) tag: u32,

@@ -2,7 +2,7 @@ ghost use Rattle.std.specs.Prelude.{◌≡◌, ◌≤◌, length};
 ghost use Rattle.hosts.specs.Ends.{end_at, kept_over, bit_in, round_in, weighing_in, done_kept, words_kept, WordsFit};
 ghost use Rattle.hosts.specs.Restored.{numbers_told, round_made, weighing_made};
 
-use crate::end_words::{EndWords, Tag};
+use crate::end_words::{END_WORDS, EndWords, Tag};
 use crate::refused::HostRefusal;
 use single_end::{Numbers, Round, Weighing};
 
@@ -18,7 +18,7 @@ pub(crate) fn named_bit(word: u32) -> Result<bool, HostRefusal>
 }
 
 impl EndWords {
-    // The first seven of some words.
+    // The first seven of some words, by index: callers have tested the length, and a pattern would need a case for fewer again.
     pub(crate) fn read(words: &[u32]) -> EndWords
         requires { 7 ≤ length words.now }
         ensures { result ≡ end_at words.now }
@@ -42,23 +42,23 @@ impl EndWords {
         let seven = [
             self.tag, self.site, self.bit, self.phase, self.round, self.n, self.f,
         ];
-        words[0..7].copy_from_slice(&seven);
+        words[..END_WORDS].copy_from_slice(&seven);
     }
 
     // The numbers of the state that they tell, if it has this tag: the engine keeps site, n and f in 8 bits.
-    fn numbers(self, tag: Tag) -> Option<Numbers>
+    fn numbers(self, tag: Tag) -> Result<Numbers, HostRefusal>
         ensures { result ≡ numbers_told tag self }
     {
         if self.tag != tag as u32 {
-            return None;
+            return Err(HostRefusal::NoState);
         }
-        Some(Numbers {
-            site: u8::try_from(self.site).ok()?,
-            bit: named_bit(self.bit).ok()?,
+        Ok(Numbers {
+            site: u8::try_from(self.site)?,
+            bit: named_bit(self.bit)?,
             phase: self.phase as usize,
             round: self.round as usize,
-            n: u8::try_from(self.n).ok()?,
-            f: u8::try_from(self.f).ok()?,
+            n: u8::try_from(self.n)?,
+            f: u8::try_from(self.f)?,
         })
     }
 
@@ -66,18 +66,14 @@ impl EndWords {
     pub(crate) fn round(self) -> Result<Round, HostRefusal>
         ensures { round_made result ≡ round_in self }
     {
-        self.numbers(Tag::Round)
-            .and_then(Round::restored)
-            .ok_or(HostRefusal::NoState)
+        Round::restored(self.numbers(Tag::Round)?).ok_or(HostRefusal::NoState)
     }
 
     // The weighing that they tell.
     pub(crate) fn weighing(self) -> Result<Weighing, HostRefusal>
         ensures { weighing_made result ≡ weighing_in self }
     {
-        self.numbers(Tag::Weighing)
-            .and_then(Weighing::restored)
-            .ok_or(HostRefusal::NoState)
+        Weighing::restored(self.numbers(Tag::Weighing)?).ok_or(HostRefusal::NoState)
     }
 
     // The words of a state that has some numbers.
@@ -96,7 +92,7 @@ impl EndWords {
         }
     }
 
-    // The words of an end that is done, with its bit.
+    // The words of an end that is done, with its bit. A host's state has seven words at any time, so the other six are told as 0.
     pub(crate) fn of_done(bit: bool) -> EndWords
         ensures { result ≡ done_kept bit }
     {

@@ -1,16 +1,26 @@
 ghost use Rattle.std.specs.Prelude.{◌≡◌};
-ghost use Rattle.hosts.specs.declared.refused.HostRefusal.TheVariants.{Engine};
+ghost use Rattle.hosts.specs.declared.refused.HostRefusal.TheVariants.{NoState, Engine};
 ghost use Rattle.hosts.specs.Answered.{host_number, answered as answered_by, site_of};
 
 use crate::refused::HostRefusal;
 use sheets::SheetRefusal;
 use sites::Refusal;
+use std::num::TryFromIntError;
 
 impl From<Refusal> for HostRefusal {
     ghost from_gives = { λ e r. r ≡ Engine e };
 
     fn from(refusal: Refusal) -> HostRefusal {
         HostRefusal::Engine(refusal)
+    }
+}
+
+// A number of a state that does not fit.
+impl From<TryFromIntError> for HostRefusal {
+    ghost from_gives = { λ e r. r ≡ NoState };
+
+    fn from(_: TryFromIntError) -> HostRefusal {
+        HostRefusal::NoState
     }
 }
 

@@ -28,7 +28,8 @@ fn answer(floor: &mut Floor<Board>, call: Option<Call>) -> Result<u32, HostRefus
     })
 }
 
-// Performs the first of some calls. The loop counts: what is written through `chunks_exact_mut` is unknown to the proof.
+// Performs the first of some calls. The loop counts, for the answers: what is written through `chunks_exact_mut` is unknown
+// to the proof. The calls are read by the same count, which is no longer than their threes with an index beside.
 fn perform(floor: &mut Floor<Board>, count: usize, calls: &[u32], answers: &mut [u32])
     requires { (3 * count ≤ length calls.now) × (2 * count ≤ length answers.old) }
     ensures { answers.new ≡ answers_over (view board_lanes floor.old) calls.now count answers.old }

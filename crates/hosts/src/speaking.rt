@@ -3,7 +3,7 @@ ghost use Rattle.plans.specs.Plans.{network};
 ghost use Rattle.hosts.specs.Answered.{answered as answered_by, left_by};
 ghost use Rattle.hosts.specs.Ends.{speak_on, speak_outcome, counted_over};
 
-use crate::books::{is_short, notebook_of, write_lane};
+use crate::books::{LANE_ROOM, is_short, notebook_of, write_lane};
 use crate::end_words::EndWords;
 use crate::loading::loaded;
 use crate::refused::HostRefusal;
@@ -42,7 +42,7 @@ fn speak(
     ensures answer { answered_by result ≡ answered_by (speak_outcome sheet.now state.now notebook.now words.old) }
     ensures words { words.new ≡ left_by (speak_outcome sheet.now state.now notebook.now words.old) (λ ws. counted_over ws words.old) words.old }
 {
-    if is_short(state, notebook) || words.len() < 121 {
+    if is_short(state, notebook) || words.len() < LANE_ROOM {
         return Err(HostRefusal::TooShort);
     }
     let plan = loaded(sheet)?;

@@ -36,6 +36,7 @@ fn take_round(
     ensures answer { result ≡ state_in (take_on (network plan.now) (board_lanes board.now) end book.old.words) }
     ensures book { book.new.words ≡ left_by (take_on (network plan.now) (board_lanes board.now) end book.old.words) (λ s. s.book) book.old.words }
 {
+    // The state is given up by a closure, as in weighing.rt: a helper for both would take their `give_up` too.
     let taken = end.round()?.take(plan, board, book).map_err(|(refusal, round)| {
         let _ = round.give_up();
         HostRefusal::Engine(refusal)

@@ -7,7 +7,6 @@ use crate::round::Round;
 use airs::Air;
 use plans::Plan;
 use rounds::Notebook;
-use site_plans::SitePlan;
 use sites::Refusal;
 
 impl Round {
@@ -22,11 +21,9 @@ impl Round {
         ensures answer { result ≡ speak_reply A.size (network plan.now) (A.lanes air.old) (seen_round self.now) notebook.now.words }
         ensures after { A.lanes air.new ≡ speak_next A.size (network plan.now) (A.lanes air.old) (seen_round self.now) notebook.now.words }
     {
-        if !self.end.fits(plan) {
+        let Some((_, table)) = self.end.opened(plan) else {
             return Err(Refusal::OtherPlan);
-        }
-        let base = SitePlan { plan: *plan };
-        let table = base.table(self.end.site);
+        };
         notebook.speak_by_bits(air, &table, self.round, self.end.bit)
     }
 }

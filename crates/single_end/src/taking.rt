@@ -9,7 +9,6 @@ use crate::weighing_state::Weighing;
 use airs::Air;
 use plans::Plan;
 use rounds::Notebook;
-use site_plans::SitePlan;
 use sites::Refusal;
 
 /// What taking a round leads to.
@@ -46,11 +45,9 @@ impl Round {
     ) -> Result<Taken, (Refusal, Round)>
         ensures { Takes (network plan.now) (A.lanes air.now) (seen_round self) notebook.old.words notebook.new.words result }
     {
-        if !self.end.fits(plan) {
+        let Some((_, table)) = self.end.opened(plan) else {
             return Err((Refusal::OtherPlan, self));
-        }
-        let base = SitePlan { plan: *plan };
-        let table = base.table(self.end.site);
+        };
         notebook.take_round(air, &table, self.round);
         Ok(self.on())
     }
