@@ -120,20 +120,22 @@ mod tests {
         Ok(())
     }
 
+    // The runs of the triangle over an air.
+    fn triangle<A: Air + Drop>(rt: &impl Abort, air: A) -> Result<(), Fail> {
+        let mut floor = Floor::new(air);
+        lying_rogue(rt, &mut floor)?;
+        first_word(rt, &mut floor)?;
+        refusals(rt, &mut floor)
+    }
+
     #[test]
     fn triangle_on_the_board(rt: HostRuntime) -> Result<(), Fail> {
-        let mut floor = Floor::new(Board::new());
-        lying_rogue(&rt, &mut floor)?;
-        first_word(&rt, &mut floor)?;
-        refusals(&rt, &mut floor)
+        triangle(&rt, Board::new())
     }
 
     #[test]
     fn triangle_on_the_strip(rt: HostRuntime) -> Result<(), Fail> {
-        let mut floor = Floor::new(Strip::new());
-        lying_rogue(&rt, &mut floor)?;
-        first_word(&rt, &mut floor)?;
-        refusals(&rt, &mut floor)
+        triangle(&rt, Strip::new())
     }
 
     #[test]

@@ -8,7 +8,7 @@ use crate::refusing::named_site;
 use airs::{Air, Board};
 use rounds::Notebook;
 
-/// How many words a notebook has. Two ranges below name the number itself: with this name `search` meets its limits there.
+/// How many words a notebook has. Two ranges below name the number itself: with this name their proofs did not close.
 const BOOK_WORDS: usize = 325;
 
 /// How many words a host lends for a lane: their number and all that a board's lane can take.
