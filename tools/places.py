@@ -27,7 +27,7 @@ PATTERNS = [
     ("4", "a number cut to a byte by hand", r"min\(255\) as u8|< 256 \{"),
     ("4", "an answer turned into a number for a test", r"1000 \+ |=> refusal\.number\(\)"),
     ("6", "a length beside an array", r"^\s+(pub(\(crate\))? )?(len|counts|ends): (usize|\[usize; 6\]),$"),
-    ("7", "a switch on a name or a code", r"match (name|code) \{|if self\.is_strip|name == \""),
+    ("7", "a switch on a name or a code", r"match (\w+\.)?(name|code) \{|if self\.is_strip|name == \""),
 ]
 
 

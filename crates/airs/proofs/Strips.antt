@@ -1,64 +1,59 @@
--- What the noted places of a strip say of its lanes.
-use Rattle.std.proofs.Common.{◌≡◌, ℕ, ◌+◌, ◌-◌, ◌<◌, ◌≤◌, List, [], ◌∷◌, ◌++◌, length, get_or, sum_by, Some, None, sym, ap, ◌∙◌, subst, ⊎_elim, arith}
-use Rattle.std.proofs.lemmas.List.{get_or_past, length-append, length_push}
-use Rattle.std.proofs.lemmas.List.Sums.{sum_by-set}
-use Rattle.std.proofs.lemmas.Bool.{cases_eq, cases_lt}
-use Rattle.std.proofs.lemmas.Option.{slice_get-get_or, slice_get_past, slice_get_within, get_or_from_slice_get}
-use Rattle.airs.specs.Lanes.{Lanes, lane, count_of, word_at, added, put_reply}
-use Rattle.airs.specs.Laws.{Accepts}
-use Rattle.airs.specs.Runs.{no_pair, run_lanes, lane_of, places_of, Filed}
+-- What the counts and places of a strip say of its lanes.
+use Rattle.std.proofs.Common.{◌≡◌, ℕ, ◌+◌, ◌-◌, ◌*◌, ◌<◌, ◌≤◌, [], ◌∷◌, ◌++◌, length, get_or, take, set, Some, sym, ap, ◌∙◌, subst, arith}
+use Rattle.std.proofs.lemmas.List.{get_or-take, length-take-le, take_more_set}
+use Rattle.std.proofs.lemmas.Option.{slice_get-get_or}
+use Rattle.airs.specs.Lanes.{lane, count_of, word_at}
+use Rattle.airs.specs.Runs.{pair_of, no_pair, lane_of, places_of}
+use Rattle.airs.specs.Strips.{strip_run, strip_lanes}
 use Rattle.airs.specs.declared.entry.Entry.{Entry}
-use Rattle.airs.proofs.Runs.{lane_run, length_places, Found, found}
-use Rattle.airs.proofs.Puts.{site_below, added_own, added_other}
+use Rattle.airs.specs.declared.strip.Strip.{Strip}
+use Rattle.airs.proofs.Runs.{lane_run, length_places, Found, found, sum_room}
 
--- a run and the places of its pairs
-module _ (places : Lanes) (run : List Entry) (six : length places ≡ 6) (filed : Filed places run) where
-  pub counted : (s : ℕ) → count_of places s ≡ count_of (run_lanes run) s
-  counted s =
-      ⊎_elim
-      (λ (l : s < 6). ap length (filed s l) ∙ length_places s 0 run ∙ ap length (sym (lane_run run s l)))
-      (λ (l : 6 ≤ s).
-      let a : length places ≤ s = omega arith in
-      ap length (get_or_past places s [] a) ∙ sym (ap length (get_or_past (run_lanes run) s [] l)))
-      (cases_lt s 6)
+module _ (t : Strip) (s : ℕ) (below : s < 6) where
+  pub counted : get_or t.counts s 0 ≡ count_of (strip_lanes t) s
+  counted =
+      let fits : get_or t.counts s 0 ≤ length (get_or t.places s []) = omega (arith, t.within s below, t.wide s below) in
+      sym (length-take-le (get_or t.counts s 0) (get_or t.places s []) fits)
+      ∙ ap length (t.filed s below)
+      ∙ length_places s 0 (strip_run t)
+      ∙ ap length (sym (lane_run (strip_run t) s below))
 
-  pub same_reply : (size s : ℕ) → put_reply size places s ≡ put_reply size (run_lanes run) s
-  same_reply size s = rw (counted s)
+  pub placed : (k : ℕ) → k < get_or t.counts s 0 → Found 0 (get_or (get_or t.places s []) k 0) (strip_run t) (get_or (lane (strip_lanes t) s) k 0)
+  placed k h =
+      let row = get_or t.places s [] in
+      let l : k < length (places_of s 0 (strip_run t)) = omega (arith, length_places s 0 (strip_run t), counted, ap length (lane_run (strip_run t) s below)) in
+      let p : get_or (places_of s 0 (strip_run t)) k 0 ≡ get_or row k 0 = ap (λ x. get_or x k 0) (sym (t.filed s below)) ∙ get_or-take (get_or t.counts s 0) row k 0 h in
+      subst (λ x. Found 0 (get_or row k 0) (strip_run t) (get_or x k 0)) (sym (lane_run (strip_run t) s below))
+      (subst (λ x. Found 0 x (strip_run t) (get_or (lane_of s (strip_run t)) k 0)) p (found s 0 (strip_run t) k l))
 
-  pub none : (s k : ℕ) → word_at places s k ≡ None → word_at (run_lanes run) s k ≡ None
-  none s k e =
-      ⊎_elim
-      (λ (l : k < count_of places s). let is = slice_get-get_or (lane places s) k 0 l in cc)
-      (λ (l : count_of places s ≤ k). slice_get_past (lane (run_lanes run) s) k (omega (arith, counted s)))
-      (cases_lt k (count_of places s))
+  -- the noted place is in the run, and the word there is the lane's
+  pub place_fits : (k : ℕ) → k < get_or t.counts s 0 → get_or (get_or t.places s []) k 0 < 960
+  place_fits k h =
+      let f = placed k h in
+      let fits : t.len ≤ length t.run = omega arith in
+      omega (arith, f.1, length-take-le t.len t.run fits)
 
-  -- a noted place is in the run, and the word there is the lane's
-  pub reads : (s k p : ℕ) → word_at places s k ≡ Some p → (p < length run) × (word_at (run_lanes run) s k ≡ Some (get_or run p no_pair).word)
-  reads s k p e =
-      let l : k < count_of places s = slice_get_within (lane places s) k p e in
-      let below = site_below places s k six l in
-      let m : k < length (lane (run_lanes run) s) = omega (arith, counted s) in
-      let at : get_or (places_of s 0 run) k 0 ≡ p = ap (λ x. get_or x k 0) (sym (filed s below)) ∙ get_or_from_slice_get (lane places s) k p 0 e in
-      let f = subst (λ x. Found 0 x run (get_or (lane_of s run) k 0)) at (found s 0 run k (omega (arith, ap length (filed s below)))) in
-      let z : p - 0 ≡ p = omega arith in (
-        omega (arith, f.1),
-        slice_get-get_or (lane (run_lanes run) s) k 0 m
-            ∙ ap (λ x. Some (get_or x k 0)) (lane_run run s below)
-            ∙ ap Some (sym f.2 ∙ ap (λ (i : ℕ). (get_or run i no_pair).word) z),
-      )
+  pub reads : (k : ℕ) → k < get_or t.counts s 0 → word_at (strip_lanes t) s k ≡ Some (get_or t.run (get_or (get_or t.places s []) k 0) no_pair).word
+  reads k h =
+      let p = get_or (get_or t.places s []) k 0 in
+      let f = placed k h in
+      let fits : t.len ≤ length t.run = omega arith in
+      let l : p < t.len = omega (arith, f.1, length-take-le t.len t.run fits) in
+      let z : p - 0 ≡ p = omega arith in
+      let m : k < length (lane (strip_lanes t) s) = omega (arith, counted) in
+      slice_get-get_or (lane (strip_lanes t) s) k 0 m
+      ∙ ap Some (sym f.2 ∙ ap (λ (e : Entry). e.word) (ap (λ i. get_or (strip_run t) i no_pair) z ∙ get_or-take t.len t.run p no_pair l))
 
--- a word put into a lane that has room for it
-module _ (size : ℕ) (ls : Lanes) (s w : ℕ) (six : length ls ≡ 6) (a : Accepts size ls s) where
-  pub put_sum : sum_by length (added ls s (w ∷ [])) ≡ sum_by length ls + 1
-  put_sum =
-      let l : s < length ls = omega (arith, a.0) in
-      omega (arith, sum_by-set length ls s (lane ls s ++ w ∷ []) [] l, length-append (lane ls s) (w ∷ []))
+-- there is room for one pair more, and the run then has it at its end
+module _ (t : Strip) (s w : ℕ) (below : s < 6) (room : get_or t.counts s 0 < 160) (six : length t.counts ≡ 6) where
+  pub free : t.len < 960
+  free =
+      let l : s < length t.counts = omega arith in
+      let all : (q : ℕ) → q < length t.counts → get_or t.counts q 0 ≤ 160 = λ q h. t.within q (omega arith) in
+      let r = sum_room 160 t.counts s l all room in
+      omega (arith, r, ap (λ n. n * 160) six, t.whole)
 
-  pub put_within : ((q : ℕ) → q < 6 → count_of ls q ≤ size) → (q : ℕ) → q < 6 → count_of (added ls s (w ∷ [])) q ≤ size
-  put_within within q below =
-      ⊎_elim
-      (λ (t : q ≡ s).
-      let l : q < length ls = omega arith in
-      subst (λ x. count_of (added ls x (w ∷ [])) q ≤ size) t (omega (arith, a.1, ap (λ x. length (lane ls x)) t, ap length (added_own ls q (w ∷ []) l), length_push (lane ls q) w)))
-      (λ t. subst (λ x. length x ≤ size) (sym (added_other ls s q (w ∷ []) t)) (within q below))
-      (cases_eq q s)
+  pub pushed : (e : Entry) → e ≡ pair_of s w → take (t.len + 1) (set t.run t.len e) ≡ strip_run t ++ pair_of s w ∷ []
+  pushed e is =
+      let l : t.len < length t.run = omega (arith, free) in
+      take_more_set t.run t.len e l ∙ ap (λ x. strip_run t ++ x ∷ []) is

@@ -1,7 +1,7 @@
 -- A common run of pairs: a site word, then the word put.
-use Rattle.std.specs.Prelude.{◌≡◌, ℕ, ◌+◌, ◌<◌, ◌≤◌, Bool, cond, List, [], ◌∷◌, map, length, filter, ◌==◌, slice_index_or}
+use Rattle.std.specs.Prelude.{◌≡◌, ℕ, ◌+◌, ◌<◌, ◌≤◌, Bool, cond, List, [], ◌∷◌, map, length, take, filter, ◌==◌, slice_index, slice_index_or}
 use Rattle.airs.specs.declared.entry.Entry.{Entry}
-use Rattle.airs.specs.Lanes.{Lanes, lane}
+use Rattle.airs.specs.Lanes.{Lanes}
 
 -- a site word: kind 12 in bits 31 to 28, the site in bits 2 to 0, zeros between
 abbrev pub word_for_site : ℕ → ℕ
@@ -40,6 +40,6 @@ abbrev pub places_of : ℕ → ℕ → List Entry → List ℕ
 places_of s i [] = []
 places_of s i (e ∷ es) = cond (by_site s e) (i ∷ places_of s (i + 1) es) (places_of s (i + 1) es)
 
--- for each site the places that are noted: those of all of its pairs in the run
-abbrev pub Filed : Lanes → List Entry → Type 0
-Filed places es = (s : ℕ) → s < 6 → lane places s ≡ places_of s 0 es
+-- for each site, how many places are noted, and which: all of its pairs in the run
+abbrev pub Filed : List ℕ → List (List ℕ) → List Entry → Type 0
+Filed counts places es = (s : ℕ) → s < 6 → take (slice_index counts s) (slice_index_or places s []) ≡ places_of s 0 es

@@ -1,14 +1,12 @@
-ghost use Rattle.std.specs.Prelude.{◌≡◌, ℕ, [], ◌∷◌, ◌++◌};
-ghost use Rattle.airs.specs.Lanes.{silent, kept, put_reply, put_next};
+ghost use Rattle.std.specs.Prelude.{◌≡◌, ℕ, ◌<◌, [], ◌∷◌, ◌++◌, Some};
+ghost use Rattle.airs.specs.Lanes.{silent, added, kept, count_of, word_at, put_reply, put_next};
 ghost use Rattle.airs.specs.Runs.{Sited, pair_of};
 ghost use Rattle.airs.specs.Strips.{strip_run, strip_lanes};
 ghost use Rattle.std.proofs.Common.{lit≤, refl};
 
 use super::air::Air;
 use super::entry::Entry;
-use super::six_lanes::SixLanes;
 use super::strip::Strip;
-use arrayvec::ArrayVec;
 use sites::Refusal;
 
 impl Strip {
@@ -18,8 +16,13 @@ impl Strip {
         ensures lanes { strip_lanes result ≡ silent }
     {
         Strip {
-            run: ArrayVec::new(),
-            places: SixLanes::new(),
+            run: [Entry {
+                site_word: 0,
+                word: 0,
+            }; 960],
+            len: 0,
+            places: [[0; 160]; 6],
+            counts: [0; 6],
         }
     }
 
@@ -28,7 +31,7 @@ impl Strip {
         ensures run { result.now ≡ strip_run self.now }
         ensures sited { Sited (strip_run self.now) }
     {
-        self.run.as_slice()
+        &self.run[0..self.len]
     }
 
     /// The pair of a site and the word that it puts.
@@ -39,6 +42,30 @@ impl Strip {
             site_word: 0xC000_0000 + site as u32,
             word,
         }
+    }
+
+    /// Puts a pair at the end of the run, and notes its place, for a site whose lane is not full.
+    fn append(&mut self, site: u8, word: u32)
+        requires { (site < 6) × (count_of (strip_lanes self.old) site < 160) }
+        ensures run { strip_run self.new ≡ strip_run self.old ++ pair_of site word ∷ [] }
+        ensures lanes { strip_lanes self.new ≡ added (strip_lanes self.old) site (word ∷ []) }
+    {
+        let lane = site as usize;
+        let count = self.counts[lane];
+        let place = self.len;
+        self.run[place] = Strip::pair(site, word);
+        self.places[lane][count] = place as u16;
+        self.counts[lane] = count + 1;
+        self.len = place + 1;
+    }
+
+    /// The word at a position before a lane's end.
+    fn word(&self, site: u8, position: usize) -> u32
+        requires { position < count_of (strip_lanes self.now) site }
+        ensures { word_at (strip_lanes self.now) site position ≡ Some result }
+    {
+        let place = self.places[site as usize][position];
+        self.run[place as usize].word
     }
 }
 
@@ -63,18 +90,30 @@ impl Air for Strip {
         ensures after { strip_lanes self.new ≡ put_next 160 (strip_lanes self.old) site word }
         ensures run { strip_run self.new ≡ kept result (strip_run self.old ++ pair_of site word ∷ []) (strip_run self.old) }
     {
-        let count = self.places.put(site, self.run.len() as u32)?;
-        self.run.push(Strip::pair(site, word));
-        Ok(count)
+        if site >= 6 {
+            return Err(Refusal::NoSite);
+        }
+        let count = self.count(site);
+        if count >= Self::LANE_WORDS {
+            return Err(Refusal::LaneFull);
+        }
+        self.append(site, word);
+        Ok(count + 1)
     }
 
     fn count(&self, site: u8) -> usize {
-        self.places.count(site)
+        if site >= 6 {
+            return 0;
+        }
+        self.counts[site as usize]
     }
 
     fn at(&self, site: u8, position: usize) -> Option<u32> {
-        let place = self.places.at(site, position)?;
-        Some(self.run[place as usize].word)
+        if position < self.count(site) {
+            Some(self.word(site, position))
+        } else {
+            None
+        }
     }
 
     /// As every air does; and the run then has no pair.
@@ -82,7 +121,7 @@ impl Air for Strip {
         ensures lanes { strip_lanes self.new ≡ silent }
         ensures run { strip_run self.new ≡ [] }
     {
-        self.run.clear();
-        self.places.clear();
+        self.len = 0;
+        self.counts = [0; 6];
     }
 }

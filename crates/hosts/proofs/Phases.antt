@@ -33,7 +33,7 @@ either_fits : (t : Bool) (e : InRound) (b : Bool) → (t ≡ true → (e.phase <
 either_fits true e b h = h refl
 either_fits false e b h = tt
 
-weighed_fits : (p : Plan) (w : InWeighing) (book : List ℕ) → WeighedFits (weighed (network p) w book)
+pub weighed_fits : (p : Plan) (w : InWeighing) (book : List ℕ) → WeighedFits (weighed (network p) w book)
 weighed_fits p w book =
     either_fits (ltb (w.phase + 1) (phases (network p)))
     (record { site = w.site; holds = bit_weighed (network p) w book; phase = w.phase + 1; round = 1; n = w.n; f = w.f })

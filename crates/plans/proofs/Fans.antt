@@ -34,7 +34,7 @@ module _ (ws : List ℕ) where
   fans_within h = (within h).1
 
 module _ (ws : List ℕ) (F v A n : ℕ) (size : n ≡ rogue_limit ws + 1) (some : 0 < length ws) where
-  from_first : first_from (fan_here ws F v A) (first_fan ws) (length ws - first_fan ws) ≡ fan_place ws F v A
+  pub from_first : first_from (fan_here ws F v A) (first_fan ws) (length ws - first_fan ws) ≡ fan_place ws F v A
   from_first =
       let w = within ws some in
       let e : 1 + (first_fan ws - 1) ≡ first_fan ws = omega (arith, w.0) in

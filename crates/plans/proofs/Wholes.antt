@@ -21,7 +21,7 @@ module _ (p : Plan) where
   plan_passes : well_formed (sheet p) ≡ Ok tt
   plan_passes = passes (sheet p) plan_judged
 
-  plan_fits : length (sheet p) ≤ 1024
+  pub plan_fits : length (sheet p) ≤ 1024
   plan_fits = sheet_fits (sheet p) plan_passes
 
   pub plan_sites : (2 ≤ site_count (sheet p)) × (site_count (sheet p) ≤ 6)

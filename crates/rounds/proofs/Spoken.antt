@@ -11,7 +11,7 @@ use Rattle.tables.proofs.TableFacts.{counts_rise, few}
 use Rattle.rounds.proofs.Notes.{with_bit, level_entries}
 
 -- the word of an entry with the bit noted at a place
-abbrev entry_word : List ℕ → ℕ → ExpectedPath → ℕ
+abbrev pub entry_word : List ℕ → ℕ → ExpectedPath → ℕ
 entry_word book i e = cond (bit_at book i) (e.word + 1) e.word
 
 abbrev entry_words : List ℕ → ℕ → List ExpectedPath → List ℕ

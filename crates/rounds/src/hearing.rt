@@ -38,13 +38,15 @@ fn pass<A: Air>(air: &A, site: u8, wanted: u32, start: usize) -> usize
 fn search<A: Air>(air: &A, site: u8, wanted: u32, start: usize) -> bool
     ensures { result ≡ first_of_two wanted (drop start (lane (A.lanes air.now) site)) }
 {
-    // two tests in a loop: a function from a word to its bit was tried, and costs a quarter more instructions
+    // Two tests in a loop, each of a word against a number: a function from a word to its bit costs a quarter more
+    // instructions, and a difference in the second test a third more. One bit more, since any word may be wanted.
+    let with_one = u64::from(wanted) + 1;
     for k in start..air.count(site) {
         if let Some(word) = air.at(site, k) {
             if word == wanted {
                 return false;
             }
-            if word > wanted && word - wanted == 1 {
+            if u64::from(word) == with_one {
                 return true;
             }
         }

@@ -7,6 +7,7 @@ use crate::round::Round;
 use airs::Air;
 use plans::Plan;
 use rounds::Notebook;
+use site_plans::SitePlan;
 use sites::Refusal;
 
 impl Round {
@@ -21,9 +22,10 @@ impl Round {
         ensures answer { result ≡ speak_reply A.size (network plan.now) (A.lanes air.old) (seen_round self.now) notebook.now.words }
         ensures after { A.lanes air.new ≡ speak_next A.size (network plan.now) (A.lanes air.old) (seen_round self.now) notebook.now.words }
     {
-        let Some((_, table)) = self.end.opened(plan) else {
+        if !self.end.fits(plan) {
             return Err(Refusal::OtherPlan);
-        };
-        notebook.speak_by_bits(air, &table, self.round, self.end.bit)
+        }
+        let base = SitePlan { plan: *plan };
+        notebook.speak_by_bits(air, &base.table(self.end.site), self.round, self.end.bit)
     }
 }

@@ -9,6 +9,7 @@ use crate::weighing_state::Weighing;
 use airs::Air;
 use plans::Plan;
 use rounds::Notebook;
+use site_plans::SitePlan;
 use sites::Refusal;
 
 /// What taking a round leads to.
@@ -45,10 +46,11 @@ impl Round {
     ) -> Result<Taken, (Refusal, Round)>
         ensures { Takes (network plan.now) (A.lanes air.now) (seen_round self) notebook.old.words notebook.new.words result }
     {
-        let Some((_, table)) = self.end.opened(plan) else {
+        if !self.end.fits(plan) {
             return Err((Refusal::OtherPlan, self));
-        };
-        notebook.take_round(air, &table, self.round);
+        }
+        let base = SitePlan { plan: *plan };
+        notebook.take_round(air, &base.table(self.end.site), self.round);
         Ok(self.on())
     }
 }

@@ -9,6 +9,7 @@ use crate::round::Round;
 use crate::weighing_state::Weighing;
 use plans::Plan;
 use rounds::Notebook;
+use site_plans::SitePlan;
 use sites::Refusal;
 
 /// What weighing a phase leads to.
@@ -39,11 +40,12 @@ impl Weighing {
     pub fn weigh(self, plan: &Plan, notebook: &Notebook) -> Result<Weighed, (Refusal, Weighing)>
         ensures { Weighs (network plan.now) (seen_weighing self) notebook.now.words result }
     {
-        let Some((base, table)) = self.end.opened(plan) else {
+        if !self.end.fits(plan) {
             return Err((Refusal::OtherPlan, self));
-        };
+        }
+        let base = SitePlan { plan: *plan };
         let set = base.suspect(self.end.phase);
-        let bit = notebook.weigh(&base, &table, set, self.end.bit);
+        let bit = notebook.weigh(&base, &base.table(self.end.site), set, self.end.bit);
         Ok(self.on(base.phases(), bit))
     }
 }

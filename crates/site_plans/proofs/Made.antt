@@ -46,11 +46,11 @@ none_cond : (b : Bool) (y : ℕ) → None ≡ cond b (Some y) None → b ≡ fal
 none_cond true y e = absurd (let z : ◌≡◌ {A = ℕ} 0 1 = cc in omega arith)
 none_cond false y e = refl
 
-suspect_some : (N : Network) (p x : ℕ) → Some x ≡ cond (ltb p (length (suspects N.n N.f))) (Some (get_or (suspects N.n N.f) p 0)) None → x ≡ suspect N p
+pub suspect_some : (N : Network) (p x : ℕ) → Some x ≡ cond (ltb p (length (suspects N.n N.f))) (Some (get_or (suspects N.n N.f) p 0)) None → x ≡ suspect N p
 unfolding suspect
 suspect_some N p x e = some_cond (ltb p (length (suspects N.n N.f))) x (get_or (suspects N.n N.f) p 0) e
 
-suspect_none : (N : Network) (p : ℕ) → None ≡ cond (ltb p (length (suspects N.n N.f))) (Some (get_or (suspects N.n N.f) p 0)) None → 0 ≡ suspect N p
+pub suspect_none : (N : Network) (p : ℕ) → None ≡ cond (ltb p (length (suspects N.n N.f))) (Some (get_or (suspects N.n N.f) p 0)) None → 0 ≡ suspect N p
 unfolding suspect
 suspect_none N p e =
     let past : length (suspects N.n N.f) ≤ p = let b = none_cond (ltb p (length (suspects N.n N.f))) _ e in grind (arith, nat_tests) in

@@ -1,5 +1,5 @@
 -- What a draft holds.
-use Rattle.std.specs.Prelude.{◌≡◌, ℕ, ◌+◌, ◌<◌, List, map, length, slice_index}
+use Rattle.std.specs.Prelude.{◌≡◌, ℕ, ◌+◌, ◌<◌, List, map, length, take, slice_index}
 use Rattle.theory.specs.Flooding.{expected_up_to}
 use Rattle.tables.specs.Wirings.{wired}
 use Rattle.tables.specs.Entries.{entry_of}
@@ -8,7 +8,7 @@ use Rattle.tables.specs.declared.draft.Draft.{Draft}
 
 -- the paths of a draft
 abbrev pub drafted : Draft → List ExpectedPath
-drafted d = d.paths.items
+drafted d = take d.len d.entries
 
 -- a draft holds what v expects along paths of at most k sites, and their counts
 pub record Lists (n : ℕ) (near : List ℕ) (v k : ℕ) (d : Draft) : Type 0 where

@@ -2,7 +2,7 @@ ghost use Rattle.std.specs.Prelude.{◌≡◌, ℕ, ◌≤◌, map, length, ◌=
 ghost use Rattle.std.specs.Option.{option_map};
 ghost use Rattle.std.specs.List.{slice_get};
 ghost use Rattle.words.specs.Words.{sites_of};
-ghost use Rattle.tables.specs.Drafts.{Lists};
+ghost use Rattle.tables.specs.Drafts.{drafted, Lists};
 ghost use Rattle.tables.specs.Entries.{path_word, entry_of};
 ghost use Rattle.tables.specs.Tables.{network_of, table_paths, place_in};
 
@@ -15,7 +15,8 @@ use words::{Kind, Path, PathWord};
 
 // The paths that a site expects.
 fn draft_of(wiring: &Wiring, site: u8) -> Draft
-    ensures { Lists wiring.now.n wiring.now.near site 5 result }
+    ensures lists { Lists wiring.now.n wiring.now.near site 5 result }
+    ensures len { result.len ≡ length (drafted result) }
 {
     let mut draft = Draft::new();
     if site < wiring.n {
@@ -38,13 +39,13 @@ impl PathTable {
         ensures site { result.site ≡ site }
     {
         let draft = draft_of(wiring, site);
-        let mut entries = [ExpectedPath::default(); 325];
-        entries[..draft.paths.len()].copy_from_slice(draft.paths.as_slice());
+        let entries = draft.entries;
+        let ends = draft.ends;
         PathTable {
             wiring: *wiring,
             site,
             entries,
-            ends: draft.ends,
+            ends,
         }
     }
 

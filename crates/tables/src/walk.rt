@@ -7,7 +7,6 @@ use crate::expected_path::ExpectedPath;
 use crate::site_wiring::SiteWiring;
 use crate::step::Step;
 use crate::wiring::Wiring;
-use arrayvec::ArrayVec;
 use sites::SiteMask;
 
 impl<'a> SiteWiring<'a> {
@@ -66,11 +65,24 @@ impl Draft {
     pub(crate) fn new() -> Draft
         ensures paths { drafted result ≡ [] }
         ensures ends { result.ends ≡ 0 ∷ 0 ∷ 0 ∷ 0 ∷ 0 ∷ 0 ∷ [] }
+        ensures len { result.len ≡ 0 }
     {
         Draft {
-            paths: ArrayVec::new(),
+            entries: [ExpectedPath::default(); 325],
+            len: 0,
             ends: [0; 6],
         }
+    }
+
+    // Writes one more path.
+    fn push(&mut self, path: ExpectedPath)
+        requires { length (drafted self.old) < 325 }
+        ensures paths { drafted self.new ≡ drafted self.old ++ path ∷ [] }
+        ensures ends { self.new.ends ≡ self.old.ends }
+    {
+        let at = self.len;
+        self.entries[at] = path;
+        self.len = at + 1;
     }
 
     // Writes each path to a neighbour of the site that goes on from a path by so many more sites.
@@ -81,7 +93,7 @@ impl Draft {
     {
         if left == 0 {
             if step.near.contains(here.site) {
-                self.paths.push(step.path);
+                self.push(step.path);
             }
             return;
         }
@@ -100,7 +112,7 @@ impl Draft {
         ensures ends { self.new.ends ≡ slice_set self.old.ends k (length (drafted self.new)) }
     {
         self.walk(here, here.root(), k);
-        self.ends[k as usize] = self.paths.len();
+        self.ends[k as usize] = self.len;
     }
 
     // Writes the paths of one to five sites.

@@ -22,6 +22,9 @@ returns-else-site-wiring c =
     let w = c.args.wiring.now in
     let strange : (k : ℕ) → expected_up_to (wired w.n w.near) c.args.site k ≡ [] = up_to_strange w.n w.near c.args.site w.few w.below (omega arith) in
     record {
-      listed = c.new-draft.ensures.paths ∙ sym (ap (map entry_of) (strange 5));
-      counted = λ j h. ap (λ (x : List ℕ). get_or x j 0) c.new-draft.ensures.ends ∙ zeros_at 6 j ∙ sym (ap length (strange j));
+      lists = record {
+        listed = c.new-draft.ensures.paths ∙ sym (ap (map entry_of) (strange 5));
+        counted = λ j h. ap (λ (x : List ℕ). get_or x j 0) c.new-draft.ensures.ends ∙ zeros_at 6 j ∙ sym (ap length (strange j));
+      };
+      len = c.new-draft.ensures.len ∙ sym (ap length c.new-draft.ensures.paths);
     }

@@ -1,4 +1,4 @@
-use Rattle.std.proofs.Common.{◌∙◌}
+use Rattle.std.proofs.Common.{sym, ◌∙◌}
 use Rattle.plans.specs.Plans.{network}
 use Rattle.airs.specs.Lanes.{lane}
 use Rattle.notebooks.specs.Floods.{heard_in}
@@ -9,9 +9,9 @@ pub returns : goal.returns
 returns g c =
     let N = network c.args.plan.now in
     let e = c.args.self.end in
-    let base = c.in-Some.ensures in (
-      base.0,
+    let same = sym c.fits.ensures ∙ c.if-not-fits.false in (
+      same,
       c.on.ensures,
       c.take_round.ensures
-          ∙ book_is N e.site c.in-Some.table base.2 (still_here N e.site e.n e.f base.0 e.here) c.args.self.round (heard_in (lane (g.A.Air.lanes c.args.air.now))) c.args.notebook.now.words,
+          ∙ book_is N e.site c.table.result c.table.ensures (still_here N e.site e.n e.f same e.here) c.args.self.round (heard_in (lane (g.A.Air.lanes c.args.air.now))) c.args.notebook.now.words,
     )
