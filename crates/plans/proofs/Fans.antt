@@ -1,15 +1,15 @@
 -- The places of the fans, counted off from the first fan path, and the first that serves.
-use Rattle.std.proofs.Common.{◌≡◌, ℕ, zero, suc, ◌+◌, ◌-◌, ◌*◌, ◌/◌, ◌%◌, ◌<◌, ◌≤◌, Bool, true, false, eqb, leb, List, length, take, drop, Some, None, Option, MatchOption, sym, refl, ap, ◌∙◌, ⊎_elim, arith}
-use Rattle.std.specs.Option.{option_map}
-use Rattle.std.proofs.Math.Nat.{mul-mod_left, lt_of_mul-lt-mul_right}
+use Rattle.std.proofs.Common.{◌≡◌, ℕ, zero, suc, ◌+◌, ◌-◌, ◌*◌, ◌/◌, ◌%◌, ◌<◌, ◌≤◌, Bool, true, false, eqb, leb, List, length, take, drop, Some, None, Option, sym, refl, ap, ◌∙◌, ⊎_elim, arith}
+use Rattle.std.proofs.Math.Nat.{mul-mod_left, lt_of_mul-lt-mul_right, le-div_iff_mul-le}
+use native.Mathlib.Nat.{add-mul}
 use Rattle.std.proofs.lemmas.Nat.{div-add-mod'}
-use Rattle.std.proofs.lemmas.List.{length-drop, drop-drop}
 use Rattle.std.proofs.lemmas.Bool.{and_parts, and_from, and_left, and_right, eqb-true, eq-eqb, leb-true, le-leb, lt-leb, cases_Bool}
 use Rattle.sites.specs.Positions.{first_from}
-use Rattle.sites.proofs.Positions.{first_miss, first_is, no_first, this_first}
+use Rattle.sites.proofs.Positions.{first_miss, first_is, none_at, no_first, this_first}
 use Rattle.words.specs.Layout.{kind_field}
 use Rattle.sheets.specs.Parts.{word_at, rogue_limit, later}
 use Rattle.sheets.specs.Rows.{first_fan, fan_starts, run_at}
+use Rattle.plans.specs.declared.checked.Fans.{Fans}
 use Rattle.plans.specs.Complete.{serves_fan, fan_here, fan_place}
 
 -- where a test fails at the d positions from i on, the search goes on behind them
@@ -33,6 +33,10 @@ module _ (ws : List ℕ) where
   pub fans_within : 0 < length ws → first_fan ws ≤ length ws
   fans_within h = (within h).1
 
+-- the k-th fan lies within the words
+pub fan_fits : (start k n many : ℕ) → 0 < n → start ≤ many → k < (many - start) / n → start + k * n + n ≤ many
+fan_fits start k n many some h l = omega (arith, (le-div_iff_mul-le {k = n} {x = k + 1} {y = many - start} some).0 (omega arith), add-mul k 1 n)
+
 module _ (ws : List ℕ) (F v A n : ℕ) (size : n ≡ rogue_limit ws + 1) (some : 0 < length ws) where
   pub from_first : first_from (fan_here ws F v A) (first_fan ws) (length ws - first_fan ws) ≡ fan_place ws F v A
   from_first =
@@ -42,49 +46,70 @@ module _ (ws : List ℕ) (F v A n : ℕ) (size : n ≡ rogue_limit ws + 1) (some
       (λ k lo hi. and_left (fan_starts ws k) _ (and_left (leb (first_fan ws) k) _ (lt-leb (first_fan ws) k (omega (arith, w.0)))))
       ∙ ap (λ (x : ℕ). first_from (fan_here ws F v A) x (length ws - x)) e)
 
-  -- the words of the fans, and whether the k-th fan serves
-  abbrev pub fans : List ℕ
-  fans = drop (first_fan ws) ws
+-- the fans of a sheet, by their numbers
+module _ (x : Fans) (F v A : ℕ) where
+  abbrev ws : List ℕ
+  ws = x.sheet.words.now
+
+  abbrev start : ℕ
+  start = x.start
+
+  abbrev n : ℕ
+  n = x.sheet.size.rogues + 1
+
+  size : n ≡ rogue_limit ws + 1
+  size = ap (λ (k : ℕ). k + 1) x.sheet.rogues
+
+  -- how many fans there are, and whether the one with a number serves
+  abbrev pub count : ℕ
+  count = (length ws - start) / n
 
   abbrev pub serves : ℕ → Bool
-  serves k = serves_fan F v A (take n (drop (k * n) fans))
+  serves k = serves_fan F v A (take n (drop (start + k * n) ws))
 
-  many : length fans ≡ length ws - first_fan ws
-  many = length-drop (first_fan ws) ws
+  counted : (k : ℕ) → start + k * n + n ≤ length ws → k < 0 + count
+  counted k l = omega (arith, (le-div_iff_mul-le {k = n} {x = k + 1} {y = length ws - start} (omega (arith, size))).1 (omega (arith, add-mul k 1 n)))
 
-  run_is : (k i : ℕ) → i ≡ first_fan ws + k * n → take n (drop (k * n) fans) ≡ run_at ws i
-  run_is k i e = ap (take n) (drop-drop (k * n) (first_fan ws) ws) ∙ ap (λ (x : ℕ). take n (drop x ws)) (sym e) ∙ ap (λ (x : ℕ). take x (drop i ws)) size
+  run_is : (k i : ℕ) → i ≡ start + k * n → take n (drop (start + k * n) ws) ≡ run_at ws i
+  run_is k i e = ap (λ (y : ℕ). take n (drop y ws)) (sym e) ∙ ap (λ (y : ℕ). take y (drop i ws)) size
 
-  here : (k i : ℕ) → i ≡ first_fan ws + k * n → k * n + n ≤ length fans → serves k ≡ true → fan_here ws F v A i ≡ true
+  here : (k i : ℕ) → i ≡ start + k * n → start + k * n + n ≤ length ws → serves k ≡ true → fan_here ws F v A i ≡ true
   here k i e l h =
-      let z : i - first_fan ws ≡ k * n = omega arith in
-      let m : (i - first_fan ws) % (rogue_limit ws + 1) ≡ 0 = ap (λ (x : ℕ). x % (rogue_limit ws + 1)) z ∙ ap (λ (x : ℕ). k * n % x) (sym size) ∙ mul-mod_left k n in
-      and_from (fan_starts ws i) _ (and_from (leb (first_fan ws) i) _ (le-leb (first_fan ws) i (omega arith)) (eq-eqb ((i - first_fan ws) % (rogue_limit ws + 1)) 0 m))
-      (and_from (leb (i + (rogue_limit ws + 1)) (length ws)) _ (le-leb (i + (rogue_limit ws + 1)) (length ws) (omega (arith, many))) (ap (serves_fan F v A) (sym (run_is k i e)) ∙ h))
+      let z : i - first_fan ws ≡ k * n = omega (arith, x.first) in
+      let m : (i - first_fan ws) % (rogue_limit ws + 1) ≡ 0 = ap (λ (y : ℕ). y % (rogue_limit ws + 1)) z ∙ ap (λ (y : ℕ). k * n % y) (sym size) ∙ mul-mod_left k n in
+      and_from (fan_starts ws i) _ (and_from (leb (first_fan ws) i) _ (le-leb (first_fan ws) i (omega (arith, x.first))) (eq-eqb ((i - first_fan ws) % (rogue_limit ws + 1)) 0 m))
+      (and_from (leb (i + (rogue_limit ws + 1)) (length ws)) _ (le-leb (i + (rogue_limit ws + 1)) (length ws) (omega arith)) (ap (serves_fan F v A) (sym (run_is k i e)) ∙ h))
 
-  not_here : (i : ℕ) → ((k : ℕ) → i ≡ first_fan ws + k * n → k * n + n ≤ length fans → serves k ≡ false) → fan_here ws F v A i ≡ false
+  not_here : (i : ℕ) → ((k : ℕ) → i ≡ start + k * n → start + k * n + n ≤ length ws → serves k ≡ false) → fan_here ws F v A i ≡ false
   not_here i h =
       ⊎_elim
       (λ s. ⊎_elim
       (λ l. let p = and_parts (leb (first_fan ws) i) (eqb ((i - first_fan ws) % (rogue_limit ws + 1)) 0) s in
       let lo = leb-true (first_fan ws) i p.0 in
       let z : (i - first_fan ws) % (rogue_limit ws + 1) ≡ 0 = eqb-true ((i - first_fan ws) % (rogue_limit ws + 1)) 0 p.1 in
-      let m : (i - first_fan ws) % n ≡ 0 = ap (λ (x : ℕ). (i - first_fan ws) % x) size ∙ z in
+      let m : (i - first_fan ws) % n ≡ 0 = ap (λ (y : ℕ). (i - first_fan ws) % y) size ∙ z in
       let k : ℕ = (i - first_fan ws) / n in
-      let e : i ≡ first_fan ws + k * n = omega (arith, div-add-mod' (i - first_fan ws) n) in
+      let e : i ≡ start + k * n = omega (arith, x.first, div-add-mod' (i - first_fan ws) n) in
       and_right (fan_starts ws i) _ (and_right (leb (i + (rogue_limit ws + 1)) (length ws)) _
-      (ap (serves_fan F v A) (sym (run_is k i e)) ∙ h k e (omega (arith, many, leb-true (i + (rogue_limit ws + 1)) (length ws) l)))))
+      (ap (serves_fan F v A) (sym (run_is k i e)) ∙ h k e (omega (arith, leb-true (i + (rogue_limit ws + 1)) (length ws) l)))))
       (λ l. and_right (fan_starts ws i) _ (and_left (leb (i + (rogue_limit ws + 1)) (length ws)) _ l))
       (cases_Bool (leb (i + (rogue_limit ws + 1)) (length ws))))
       (λ s. and_left (fan_starts ws i) _ s)
       (cases_Bool (fan_starts ws i))
 
+  -- where no fan serves, there is no place
+  pub fan_missing : first_from serves 0 count ≡ None → None ≡ fan_place ws F v A
+  fan_missing h = sym (no_first (fan_here ws F v A) (first_fan ws) (length ws - first_fan ws) (λ i lo hi. not_here i (λ k e l. none_at serves 0 count h k (omega arith) (counted k l)))) ∙ from_first ws F v A n size x.sheet.some
+
+  -- the fan that is found lies within the words
+  pub found_fits : (k : ℕ) → first_from serves 0 count ≡ Some k → start + k * n + n ≤ length ws
+  found_fits k h = fan_fits start k n (length ws) (omega (arith, size)) (omega (arith, x.first, fans_within ws x.sheet.some)) (omega (arith, (first_is serves 0 count k h).2))
+
   -- the first fan that serves, by its number, stands at the place of the first that serves
-  pub fan_is : (r : Option ℕ) →
-      MatchOption r ((k : ℕ) → k * n + n ≤ length fans → serves k ≡ false) (λ m. (m * n + n ≤ length fans) × (serves m ≡ true) × ((k : ℕ) → k < m → serves k ≡ false)) →
-      option_map (λ k. first_fan ws + k * n) r ≡ fan_place ws F v A
-  fan_is None h = sym (no_first (fan_here ws F v A) (first_fan ws) (length ws - first_fan ws) (λ i lo hi. not_here i (λ k e l. h k l))) ∙ from_first
-  fan_is (Some m) h =
-      sym (this_first (fan_here ws F v A) (first_fan ws) (length ws - first_fan ws) (first_fan ws + m * n) (omega arith) (omega (arith, h.0, many, size)) (here m (first_fan ws + m * n) refl h.0 h.1)
-      (λ i lo hi. not_here i (λ k e l. h.2 k (lt_of_mul-lt-mul_right n (omega arith)))))
-      ∙ from_first
+  pub fan_is : (k : ℕ) → first_from serves 0 count ≡ Some k → Some (start + k * n) ≡ fan_place ws F v A
+  fan_is k h =
+      let q = first_is serves 0 count k h in
+      let l : start + k * n + n ≤ length ws = found_fits k h in
+      sym (this_first (fan_here ws F v A) (first_fan ws) (length ws - first_fan ws) (start + k * n) (omega (arith, x.first)) (omega (arith, l, size, x.first)) (here k (start + k * n) refl l q.0)
+      (λ i lo hi. not_here i (λ j e m. q.3 j (omega arith) (lt_of_mul-lt-mul_right n (omega arith)))))
+      ∙ from_first ws F v A n size x.sheet.some

@@ -6,3 +6,4 @@ pub mod Fans
 pub mod Taken
 pub mod Wholes
 pub mod Chains
+pub mod Routes

@@ -1,4 +1,4 @@
-ghost use Rattle.std.specs.Prelude.{◌≡◌, ◌<◌, ◌&&◌, Ok, length};
+ghost use Rattle.std.specs.Prelude.{◌≡◌, ◌+◌, ◌*◌, ◌^◌, ◌<◌, ◌≤◌, ◌&&◌, Ok, length, take, drop};
 ghost use Rattle.sheets.specs.Refusals.{well_formed};
 ghost use Rattle.plans.specs.Taken.{route_here};
 ghost use Rattle.plans.specs.Complete.{serves_fan, route_place, fan_place};
@@ -45,11 +45,21 @@ impl<'a> Checked<'a> {
         }
     }
 
+    // The place of a word behind the head by its number, from 0 on: they are tried in the order in which they stand.
+    fn place(&self, k: usize) -> usize
+        requires { k + 1 < length self.now.words.now }
+        ensures { result ≡ k + 1 }
+    {
+        k + 1
+    }
+
     // The place of the first route between two sites that avoids a set.
     pub(crate) fn find_route(&self, set: SiteMask, from: u8, to: u8) -> Option<usize>
         ensures { result ≡ route_place self.now.words.now set.bits from to }
     {
-        (1..self.words.len()).find(|i| is_route(self.words[*i], set, from, to))
+        let later = self.words.len() - 1;
+        let k = (0..later).find(|k| is_route(self.words[self.place(*k)], set, from, to))?;
+        Some(self.place(k))
     }
 
     // Its fans.
@@ -64,17 +74,43 @@ impl<'a> Checked<'a> {
 }
 
 impl<'a> Fans<'a> {
+    // How many words a fan has.
+    fn size(&self) -> usize
+        ensures { result ≡ self.now.sheet.size.rogues + 1 }
+    {
+        usize::from(self.sheet.size.rogues) + 1
+    }
+
+    // The place of the fan with a number, from 0 on: they stand one behind the other, and none is passed over.
+    fn place(&self, k: usize) -> usize
+        requires { self.now.start + k * (self.now.sheet.size.rogues + 1) < 2 ^ 64 }
+        ensures { result ≡ self.now.start + k * (self.now.sheet.size.rogues + 1) }
+    {
+        self.start + k * self.size()
+    }
+
+    // Whether the fan with a number ends at a site, begins in a set and avoids another set.
+    fn serves(&self, k: usize, set: SiteMask, at: u8, among: SiteMask) -> bool
+        requires { self.now.start + k * (self.now.sheet.size.rogues + 1) + (self.now.sheet.size.rogues + 1) ≤ length self.now.sheet.words.now }
+        ensures { result ≡ serves_fan set.bits at among.bits (take (self.now.sheet.size.rogues + 1) (drop (self.now.start + k * (self.now.sheet.size.rogues + 1)) self.now.sheet.words.now)) }
+    {
+        let place = self.place(k);
+        is_serving(
+            &self.sheet.words[place..place + self.size()],
+            set,
+            at,
+            among,
+        )
+    }
+
     // The place of the first fan at a site that begins in a set and avoids another set. Only every (f + 1)-th
     // word is tried.
-    #[tactic(auto, using(crate::proofs::Fans::fans_within))]
+    #[tactic(auto, using(crate::proofs::Fans::fans_within, crate::proofs::Fans::fan_fits))]
     pub(crate) fn find(&self, set: SiteMask, at: u8, among: SiteMask) -> Option<usize>
         ensures { result ≡ fan_place self.now.sheet.words.now set.bits at among.bits }
     {
-        let start = self.start;
-        let size = usize::from(self.sheet.size.rogues) + 1;
-        let fans = &self.sheet.words[start..];
-        fans.chunks_exact(size)
-            .position(|run| is_serving(run, set, at, among))
-            .map(|k| start + k * size)
+        let count = (self.sheet.words.len() - self.start) / self.size();
+        let k = (0..count).find(|k| self.serves(*k, set, at, among))?;
+        Some(self.place(k))
     }
 }

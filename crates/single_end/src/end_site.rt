@@ -19,7 +19,7 @@ pub(crate) struct EndSite {
 
 impl EndSite {
     // Whether a plan has the n and f that the end began with. The plan's table is made by the calls themselves: a method
-    // that gave plan and table copied both once more, which weighs on small networks.
+    // that gave plan and table copied both once more.
     pub(crate) fn fits(&self, plan: &Plan) -> bool
         ensures { result ≡ same_size (network plan.now) self.now.n self.now.f }
     {

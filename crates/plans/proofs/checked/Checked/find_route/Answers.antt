@@ -1,15 +1,23 @@
-use Rattle.std.proofs.Common.{rules, ◌≡◌, ℕ, ◌+◌, ◌<◌, ◌≤◌, true, false, MatchOption, get_or}
-use Rattle.std.proofs.iter.runs.Sources.{ranges}
-use Rattle.sites.proofs.Positions.{first_found}
+use Rattle.std.proofs.Common.{rules, ℕ, Some, ap, sym, ◌∙◌}
+use Rattle.sites.proofs.Ranges.{found_number}
 use Rattle.sheets.specs.Parts.{later}
-use Rattle.plans.specs.Taken.{route_here}
+use Rattle.plans.proofs.Routes.{serves, route_missing, route_is, found_fits}
 use Rattle.plans.proofs.checked.Checked.find_route.Goals as goal
 
+pub returns-in_err-k : goal.returns-in_err-k
+returns-in_err-k c =
+    let ws = c.args.self.now.words.now in
+    let found = found_number _ _ _ (serves ws c.args.set.bits c.args.from c.args.to) (search rules) (λ k b lo hi h. search rules) 0 (later ws) c.find.result (search rules) (search rules) c.find.ensures.runs in
+    c.from_residual.ensures ∙ route_missing ws c.args.set.bits c.args.from c.args.to (sym found ∙ c.in_err-k.was)
+
+pub place-requires : goal.place-requires
+place-requires c =
+    let ws = c.args.self.now.words.now in
+    let found = found_number _ _ _ (serves ws c.args.set.bits c.args.from c.args.to) (search rules) (λ k b lo hi h. search rules) 0 (later ws) c.find.result (search rules) (search rules) c.find.ensures.runs in
+    found_fits ws c.args.set.bits c.args.from c.args.to c.in_ok-k.k (sym found ∙ c.in_ok-k.was)
+
 pub returns : goal.returns
-unfolding route_here
 returns c =
     let ws = c.args.self.now.words.now in
-    let h : MatchOption c.find.result ((k : ℕ) → 1 ≤ k → k < 1 + later ws → route_here c.args.set.bits c.args.from c.args.to (get_or ws k 0) ≡ false)
-    (λ m. (1 ≤ m) × (m < 1 + later ws) × (route_here c.args.set.bits c.args.from c.args.to (get_or ws m 0) ≡ true) × ((k : ℕ) → 1 ≤ k → k < m → route_here c.args.set.bits c.args.from c.args.to (get_or ws k 0) ≡ false)) =
-    search (rules, ranges) in
-    first_found (λ i. route_here c.args.set.bits c.args.from c.args.to (get_or ws i 0)) 1 (later ws) c.find.result h
+    let found = found_number _ _ _ (serves ws c.args.set.bits c.args.from c.args.to) (search rules) (λ k b lo hi h. search rules) 0 (later ws) c.find.result (search rules) (search rules) c.find.ensures.runs in
+    ap (λ (x : ℕ). Some x) c.place.ensures ∙ route_is ws c.args.set.bits c.args.from c.args.to c.in_ok-k.k (sym found ∙ c.in_ok-k.was)
