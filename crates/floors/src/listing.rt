@@ -1,4 +1,4 @@
-ghost use Rattle.std.specs.Prelude.{◌≡◌, min, ◌++◌, length, take, drop};
+ghost use Rattle.std.specs.Prelude.{◌≡◌, ◌≤◌, min, ◌++◌, length, take, drop};
 ghost use Rattle.runs.specs.Runs.{after as left_by, answers as answers_to};
 ghost use Rattle.plans.specs.Plans.{network};
 ghost use Rattle.floors.specs.Lists.{Performed, OpensAndRuns};
@@ -11,6 +11,20 @@ use runs::{Answer, Call};
 use sites::{Refusal, SiteMask};
 
 impl<A: Air> Floor<A> {
+    // Performs the first of some calls.
+    fn perform_first(&mut self, count: usize, calls: &[Call], answers: &mut [Answer])
+        requires { (count ≤ length calls.now) × (count ≤ length answers.old) }
+        ensures answers { answers.new ≡ answers_to A.size (view A.lanes self.old) (take count calls.now) ++ drop count answers.old }
+        ensures after { view A.lanes self.new ≡ left_by A.size (view A.lanes self.old) (take count calls.now) }
+        ensures plan { plan_sheet self.new ≡ plan_sheet self.old }
+        ensures guarantee { Performed A.size (view A.lanes self.old) (take count calls.now) (take count answers.new) (view A.lanes self.new) }
+    {
+        // Answers by their index: what `zip` with `iter_mut` leaves in a slice is not known to a proof.
+        for (i, call) in calls[..count].iter().enumerate() {
+            answers[i] = self.perform_one(*call);
+        }
+    }
+
     /// Performs calls in their order, as many as there is room for their answers, and answers how many. Whatever the
     /// calls, the guarantee over lists of calls holds of them, and of those since the floor was opened with them.
     pub fn perform(&mut self, calls: &[Call], answers: &mut [Answer]) -> usize
@@ -21,10 +35,7 @@ impl<A: Air> Floor<A> {
         ensures guarantee { Performed A.size (view A.lanes self.old) (take result calls.now) (take result answers.new) (view A.lanes self.new) }
     {
         let count = calls.len().min(answers.len());
-        // Answers by their index: what `zip` with `iter_mut` leaves in a slice is not known to a proof.
-        for (i, call) in calls[..count].iter().enumerate() {
-            answers[i] = self.perform_one(*call);
-        }
+        self.perform_first(count, calls, answers);
         count
     }
 

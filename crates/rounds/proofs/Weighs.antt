@@ -1,5 +1,5 @@
 -- Weighing by what a notebook tells.
-use Rattle.std.proofs.Common.{◌≡◌, ℕ, zero, suc, ◌<◌, Bool, true, false, cond, MatchBool, List, [], ◌∷◌, map, length, get_or, sym, refl, ap, ◌∙◌, subst, arith}
+use Rattle.std.proofs.Common.{◌≡◌, ℕ, zero, suc, ◌<◌, Bool, true, false, cond, MatchBool, List, [], ◌∷◌, map, length, drop, get_or, sym, refl, ap, ◌∙◌, subst, arith}
 use Rattle.std.specs.List.{AllByRecursion, AllWithin, HoldsAt}
 use Rattle.sites.specs.Sets.{in_set}
 use Rattle.sites.specs.Lists.{front}
@@ -53,6 +53,11 @@ unfolding agreed
 agreed_by L B own bit r w ws fan is a told e =
     let first : bit ≡ B w = told (subst (AllByRecursion L) is a).0 in
     ap (λ t. cond t bit own) e ∙ ap (λ y. cond (all_are y (map B ws)) y own) first ∙ sym (ap (λ (x : List ℕ). agreed own (map B x)) is)
+
+-- a fan is its first word and those behind it
+pub parted : (fan : List ℕ) (w : ℕ) → 0 < length fan → w ≡ get_or fan 0 0 → fan ≡ w ∷ drop 1 fan
+parted [] w h e = absurd (omega arith)
+parted (x ∷ xs) w h e = ap (λ (y : ℕ). y ∷ xs) (sym e)
 
 pub agreed_none : (B : ℕ → Bool) (own : Bool) (fan : List ℕ) → length fan ≡ 0 → own ≡ agreed own (map B fan)
 unfolding agreed

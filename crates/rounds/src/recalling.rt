@@ -4,7 +4,7 @@ ghost use Rattle.words.specs.Words.{sites_of};
 ghost use Rattle.notebooks.specs.Notebooks.{empty_book, bit_at, noted as noted_in, told_by};
 ghost use Rattle.tables.specs.Entries.{path_word};
 ghost use Rattle.tables.specs.Tables.{table_network};
-ghost use Rattle.rounds.specs.Recalling.{Asks, recall_reply};
+ghost use Rattle.rounds.specs.Recalling.{Asks, or_unheard, recall_reply};
 
 use crate::notebook::Notebook;
 use sites::Refusal;
@@ -37,6 +37,13 @@ fn asked(word: u32) -> Result<Path, Refusal>
         return Err(Refusal::Path);
     }
     Ok(flood.path())
+}
+
+// A bit, or 29 where there is none.
+fn or_refused(bit: Option<bool>) -> Result<bool, Refusal>
+    ensures { result ≡ or_unheard bit }
+{
+    bit.ok_or(Refusal::Unheard)
 }
 
 impl Notebook {
@@ -90,7 +97,7 @@ impl Notebook {
         ensures { result ≡ recall_reply (table_network table.now) table.now.site rounds self.now.words word }
     {
         let path = asked(word)?;
-        self.noted(table, &path, rounds).ok_or(Refusal::Unheard)
+        or_refused(self.noted(table, &path, rounds))
     }
 
     /// What the notebook tells of a path when all rounds of a phase were heard: the bit noted for it, and 1 where the

@@ -1,4 +1,4 @@
-ghost use Rattle.std.specs.Prelude.{◌≡◌, true, map, is_some, if◌then◌else◌, nat_eq};
+ghost use Rattle.std.specs.Prelude.{◌≡◌, ◌<◌, true, map, is_some, length, drop, if◌then◌else◌, nat_eq};
 ghost use Rattle.std.specs.List.{AllByRecursion};
 ghost use Rattle.sites.specs.Lists.{front};
 ghost use Rattle.sites.specs.Keepers.{keepers as keepers_by};
@@ -33,6 +33,14 @@ pub fn keepers<P: Routing>(plan: &P, set: SiteMask, zeros: SiteMask) -> SiteMask
     NetworkSize { sites, rogues }.keepers(set, zeros)
 }
 
+// The words of a fan behind the first one: each is read, to the last.
+fn behind_first(fan: &[u32]) -> &[u32]
+    requires { 0 < length fan.now }
+    ensures { result.now ≡ drop 1 fan.now }
+{
+    &fan[1..]
+}
+
 impl<'a> Heard<'a> {
     // The bit told of a path without its last site.
     fn told_front(&self, path: &Path) -> bool
@@ -65,11 +73,11 @@ impl<'a> Heard<'a> {
         requires { AllByRecursion (λ w. is_some (meaning w) ≡ true) fan.now }
         ensures { result ≡ agreed_of own (map (λ w. tells self.now (front (path_field w))) fan.now) }
     {
-        let Some((first, others)) = fan.split_first() else {
+        let Some(first) = fan.first() else {
             return own;
         };
         let bit = self.bit_along(*first);
-        if self.all_bring(others, bit) {
+        if self.all_bring(behind_first(fan), bit) {
             bit
         } else {
             own

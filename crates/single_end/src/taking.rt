@@ -1,5 +1,9 @@
 ghost use Rattle.std.specs.Prelude.{◌≡◌};
 ghost use Rattle.plans.specs.Plans.{network};
+ghost use Rattle.airs.specs.Lanes.{lane};
+ghost use Rattle.notebooks.specs.Floods.{heard_in};
+ghost use Rattle.notebooks.specs.Notebooks.{take_round};
+ghost use Rattle.tables.specs.Tables.{table_network};
 ghost use Rattle.single_end.specs.Ends.{taken};
 ghost use Rattle.single_end.specs.States.{seen_round};
 ghost use Rattle.single_end.specs.Calls.{seen_taken, Takes};
@@ -11,6 +15,7 @@ use plans::Plan;
 use rounds::Notebook;
 use site_plans::SitePlan;
 use sites::Refusal;
+use tables::PathTable;
 
 /// What taking a round leads to.
 pub enum Taken {
@@ -35,6 +40,13 @@ impl Round {
         Taken::Weighing(Weighing { end })
     }
 
+    // Hears the neighbours of the table's site.
+    fn hear<A: Air>(&self, air: &A, table: &PathTable, notebook: &mut Notebook)
+        ensures { notebook.new.words ≡ take_round (table_network table.now) table.now.site self.now.round (heard_in (lane (A.lanes air.now))) notebook.old.words }
+    {
+        notebook.take_round(air, table, self.round);
+    }
+
     /// Hears the neighbours, the first round of a phase with an empty notebook, and gives the next round or, after round
     /// n - 1, weighing. Refused with 14 where the plan has another n or f than at the start: then the state comes back,
     /// and the notebook stays as it was.
@@ -50,7 +62,7 @@ impl Round {
             return Err((Refusal::OtherPlan, self));
         }
         let base = SitePlan { plan: *plan };
-        notebook.take_round(air, &base.table(self.end.site), self.round);
+        self.hear(air, &base.table(self.end.site), notebook);
         Ok(self.on())
     }
 }

@@ -1,4 +1,4 @@
-ghost use Rattle.std.specs.Prelude.{◌≡◌, ℕ, ◌≤◌, map, length, ◌==◌, position};
+ghost use Rattle.std.specs.Prelude.{◌≡◌, ℕ, ◌≤◌, map, length, take, ◌==◌, position};
 ghost use Rattle.std.specs.Option.{option_map};
 ghost use Rattle.std.specs.List.{slice_get};
 ghost use Rattle.words.specs.Words.{sites_of};
@@ -30,6 +30,14 @@ fn find(entries: &[ExpectedPath], word: u32) -> Option<usize>
     ensures { result ≡ position (λ e. e.word == word) entries.now }
 {
     entries.iter().position(|entry| entry.word == word)
+}
+
+// So many entries from the first on.
+fn first_entries(entries: &[ExpectedPath], count: usize) -> &[ExpectedPath]
+    requires { count ≤ length entries.now }
+    ensures { result.now ≡ take count entries.now }
+{
+    &entries[..count]
 }
 
 impl PathTable {
@@ -76,7 +84,7 @@ impl PathTable {
     pub fn up_to(&self, k: usize) -> &[ExpectedPath]
         ensures { result.now ≡ map entry_of (table_paths self.now k) }
     {
-        &self.entries[..self.count(k)]
+        first_entries(&self.entries, self.count(k))
     }
 
     /// The flood word, with bit 0, of the path at a place of the notebook; none past the last path.

@@ -1,19 +1,13 @@
-use Rattle.std.proofs.Common.{◌≡◌, ℕ, Bool, List, Option, Some, None, refl, sym, ap, ◌∙◌}
-use Rattle.std.specs.Option.{ok_or}
+use Rattle.std.proofs.Common.{ℕ, List, Option, sym, ap, ◌∙◌}
 use Rattle.std.proofs.lemmas.Result.{err_from_is_err_and}
-use Rattle.sites.specs.declared.refusal.Refusal.TheVariants.{Unheard}
 use Rattle.tables.specs.Tables.{table_network}
 use Rattle.rounds.specs.Recalling.{or_unheard, recall_of}
 use Rattle.rounds.proofs.notebook.Notebook.recalled.Goals as goal
 
-as_unheard : (o : Option Bool) → ok_or o Unheard ≡ or_unheard o
-as_unheard (Some b) = refl
-as_unheard None = refl
-
 pub returns : goal.returns
 returns c =
     let t = c.args.table.now in
-    c.ok_or.ensures.value ∙ as_unheard c.noted.result ∙ ap or_unheard c.noted.ensures
+    c.or_refused.ensures ∙ ap or_unheard c.noted.ensures
     ∙ ap (λ (o : Option (List ℕ)). recall_of (table_network t) t.site c.args.rounds c.args.self.now.words o) (sym c.in_ok-path.ensures)
 
 pub returns-in_err-path : goal.returns-in_err-path

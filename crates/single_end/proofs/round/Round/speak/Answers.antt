@@ -12,6 +12,6 @@ returns g c =
     let book = c.args.notebook.now.words in
     let same = sym c.fits.ensures ∙ c.if-not-fits.false in
     record {
-      answer = c.speak_by_bits.ensures.answer ∙ spoken_reply g.A.Air.size N ls e book c.table.result c.table.ensures same c.args.self.now.end.here;
-      after = c.speak_by_bits.ensures.after ∙ spoken_next g.A.Air.size N ls e book c.table.result c.table.ensures same c.args.self.now.end.here;
+      answer = c.put.ensures.answer ∙ spoken_reply g.A.Air.size N ls e book c.table.result c.table.ensures same c.args.self.now.end.here;
+      after = c.put.ensures.after ∙ spoken_next g.A.Air.size N ls e book c.table.result c.table.ensures same c.args.self.now.end.here;
     }

@@ -12,6 +12,6 @@ returns g c =
     let same = sym c.fits.ensures ∙ c.if-not-fits.false in (
       same,
       c.on.ensures,
-      c.take_round.ensures
+      c.hear.ensures
           ∙ book_is N e.site c.table.result c.table.ensures (still_here N e.site e.n e.f same e.here) c.args.self.round (heard_in (lane (g.A.Air.lanes c.args.air.now))) c.args.notebook.now.words,
     )

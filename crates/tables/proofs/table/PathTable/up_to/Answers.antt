@@ -5,4 +5,4 @@ use Rattle.tables.proofs.table.PathTable.up_to.Goals as goal
 pub returns : goal.returns
 returns c =
     let t = c.args.self.now in
-    ap (λ x. take x t.entries) c.count.ensures.value ∙ front_paths t c.args.k
+    c.first_entries.ensures ∙ ap (λ x. take x t.entries) c.count.ensures.value ∙ front_paths t c.args.k

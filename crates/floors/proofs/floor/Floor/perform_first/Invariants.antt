@@ -1,7 +1,7 @@
 use Rattle.std.proofs.Common.{◌≡◌, ◌++◌, take, drop}
 use Rattle.runs.specs.Runs.{after, answers}
 use Rattle.floors.specs.Views.{view, plan_sheet}
-use Rattle.floors.proofs.floor.Floor.perform.Given as goal
+use Rattle.floors.proofs.floor.Floor.perform_first.Given as goal
 
 abbrev pub invariant-loop-i : goal.invariant-loop-i
 invariant-loop-i g l =

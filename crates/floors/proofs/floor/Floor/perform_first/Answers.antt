@@ -8,7 +8,7 @@ use Rattle.plans.proofs.Wholes.{plan_lawful}
 use Rattle.site_plans.proofs.Made.{base_few}
 use Rattle.floors.specs.Views.{view}
 use Rattle.floors.proofs.Performs.{after_more, answers_more, answered, performed}
-use Rattle.floors.proofs.floor.Floor.perform.Goals as goal
+use Rattle.floors.proofs.floor.Floor.perform_first.Goals as goal
 
 pub loop-i-preserved : goal.loop-i-preserved
 loop-i-preserved g c =
@@ -19,11 +19,11 @@ loop-i-preserved g c =
     let old = c.args.answers.now in
     let i = c.loop-i.i in
     let inv = c.loop-i.invariant in
-    let k = c.min-count.result in
-    let long : length (take k cs) ≡ k = length-take-le k cs (omega arith) in
+    let k = c.args.count in
+    let long : length (take k cs) ≡ k = length-take-le k cs c.requires.0 in
     let under : i < k = omega arith in
-    let l : i < length cs = omega arith in
-    let m : i < length old = omega arith in
+    let l : i < length cs = omega (arith, c.requires.0) in
+    let m : i < length old = omega (arith, c.requires.1) in
     let same : get_or (take k cs) i (Transmit 0 0) ≡ get_or cs i (Transmit 0 0) = get_or-take k cs i (Transmit 0 0) under in (
       after_more z st mid _ cs i (Transmit 0 0) l inv.0 (c.perform_one.ensures.after ∙ ap (λ (x : Call). next z mid x) same),
       answers_more z st mid cs old c.loop-i.answers i (Transmit 0 0) c.perform_one.result (Ok (Count 0)) l m inv.0 inv.1 (c.perform_one.ensures.answer ∙ ap (λ (x : Call). reply z mid x) same),
@@ -37,9 +37,9 @@ returns-clause-guarantee g c =
     let st = view g.A.Air.lanes f in
     let cs = c.args.calls.now in
     let old = c.args.answers.now in
-    let k = c.min-count.result in
+    let k = c.args.count in
     let inv = c.loop-i.invariant in
-    let l : k ≤ length cs = omega arith in
+    let l : k ≤ length cs = c.requires.0 in
     let long : length (take k cs) ≡ k = length-take-le k cs l in
     let e : c.loop-i.i ≡ k = omega arith in
     let told = inv.1 ∙ ap (λ (j : ℕ). answers z st (take j cs) ++ drop j old) e in
