@@ -33,7 +33,7 @@ pub fn keepers<P: Routing>(plan: &P, set: SiteMask, zeros: SiteMask) -> SiteMask
     NetworkSize { sites, rogues }.keepers(set, zeros)
 }
 
-// The words of a fan behind the first one: each is read, to the last.
+// The words of a fan behind the first one.
 fn behind_first(fan: &[u32]) -> &[u32]
     requires { 0 < length fan.now }
     ensures { result.now ≡ drop 1 fan.now }
